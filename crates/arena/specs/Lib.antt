@@ -1,0 +1,4 @@
+pub mod Game
+pub mod Next
+pub mod Play
+pub mod Winner

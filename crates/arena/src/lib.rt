@@ -1,0 +1,71 @@
+//! What a game is, and the two traits through which code asks one.
+//!
+//! `specs/` defines games, plays, strategies and winners. An arena is a value that means one game: `Moves` tells its moves,
+//! and `Arena` adds the sets of states and the starts.
+
+ghost use denote.Ref.{now};
+ghost use mathlib.Core.Path.{_≡_};
+ghost use Rattle.arena.specs.Game.{GameMoves, GameGoals, LawfulMoves, LawfulGoals, starts};
+ghost use Rattle.arena.specs.Next.{target};
+
+mod player;
+
+pub use player::Player;
+
+/// Where a reply leads.
+#[derive(Clone, Copy, PartialEq, Eq, Debug)]
+pub enum Next {
+    /// To this state.
+    To(u16),
+    /// Nowhere: the controller may not pick it.
+    Barred,
+}
+
+/// The moves of a game. No question changes the arena, and every answer is its game's, for any number: outside the game
+/// inputs are closed and replies barred.
+pub trait Moves {
+    ghost moves: { Self → GameMoves };
+
+    law lawful: { (a : Self) → LawfulMoves (moves a) };
+
+    fn states(&self) -> u16
+        ensures { λ r. ⌜ r ≡ moves (now (self .entry)) .states ⌝ };
+
+    fn inputs(&self) -> u16
+        ensures { λ r. ⌜ r ≡ moves (now (self .entry)) .inputs ⌝ };
+
+    fn replies(&self) -> u16
+        ensures { λ r. ⌜ r ≡ moves (now (self .entry)) .replies ⌝ };
+
+    /// Whether the environment may pick `input` at `state`.
+    fn is_open(&self, state: u16, input: u16) -> bool
+        ensures { λ r. ⌜ r ≡ moves (now (self .entry)) .opened state input ⌝ };
+
+    /// Where `reply` to `input` leads from `state`.
+    fn leads(&self, state: u16, input: u16, reply: u16) -> Next
+        ensures { λ r. ⌜ target r ≡ moves (now (self .entry)) .leads state input reply ⌝ };
+}
+
+/// A whole game: moves, assumption sets, guarantee sets and starts. Nothing outside the game is in a set or a start.
+pub trait Arena: Moves {
+    ghost goals: { Self → GameGoals };
+
+    law fair: { (a : Self) → LawfulGoals (Self·Moves .moves a .states) (goals a) };
+
+    fn assumptions(&self) -> u16
+        ensures { λ r. ⌜ r ≡ goals (now (self .entry)) .assumptions ⌝ };
+
+    fn guarantees(&self) -> u16
+        ensures { λ r. ⌜ r ≡ goals (now (self .entry)) .guarantees ⌝ };
+
+    /// Whether `state` is in assumption set `set`.
+    fn in_assumption(&self, set: u16, state: u16) -> bool
+        ensures { λ r. ⌜ r ≡ goals (now (self .entry)) .assumed set state ⌝ };
+
+    /// Whether `state` is in guarantee set `set`.
+    fn in_guarantee(&self, set: u16, state: u16) -> bool
+        ensures { λ r. ⌜ r ≡ goals (now (self .entry)) .guaranteed set state ⌝ };
+
+    fn is_start(&self, state: u16) -> bool
+        ensures { λ r. ⌜ r ≡ starts (goals (now (self .entry))) state ⌝ };
+}
