@@ -21,51 +21,57 @@ pub enum Next {
     Barred,
 }
 
-/// The moves of a game. No question changes the arena, and every answer is its game's, for any number: outside the game
-/// inputs are closed and replies barred.
-pub trait Moves {
+/// A value that means the moves of a game, which are lawful.
+pub trait HasMoves {
     ghost moves: { Self → GameMoves };
 
     law lawful: { (a : Self) → LawfulMoves (moves a) };
+}
 
+/// The questions about moves. No question changes the arena, and every answer is its game's, for any number: outside the
+/// game inputs are closed and replies barred.
+pub trait Moves: HasMoves {
     fn states(&self) -> u16
-        ensures { λ r. ⌜ r ≡ moves (now (self .entry)) .states ⌝ };
+        ensures { λ r. ⌜ r ≡ Self·HasMoves .moves (now (self .entry)) .states ⌝ };
 
     fn inputs(&self) -> u16
-        ensures { λ r. ⌜ r ≡ moves (now (self .entry)) .inputs ⌝ };
+        ensures { λ r. ⌜ r ≡ Self·HasMoves .moves (now (self .entry)) .inputs ⌝ };
 
     fn replies(&self) -> u16
-        ensures { λ r. ⌜ r ≡ moves (now (self .entry)) .replies ⌝ };
+        ensures { λ r. ⌜ r ≡ Self·HasMoves .moves (now (self .entry)) .replies ⌝ };
 
     /// Whether the environment may pick `input` at `state`.
     fn is_open(&self, state: u16, input: u16) -> bool
-        ensures { λ r. ⌜ r ≡ moves (now (self .entry)) .opened state input ⌝ };
+        ensures { λ r. ⌜ r ≡ Self·HasMoves .moves (now (self .entry)) .opened state input ⌝ };
 
     /// Where `reply` to `input` leads from `state`.
     fn leads(&self, state: u16, input: u16, reply: u16) -> Next
-        ensures { λ r. ⌜ target r ≡ moves (now (self .entry)) .leads state input reply ⌝ };
+        ensures { λ r. ⌜ target r ≡ Self·HasMoves .moves (now (self .entry)) .leads state input reply ⌝ };
 }
 
-/// A whole game: moves, assumption sets, guarantee sets and starts. Nothing outside the game is in a set or a start.
-pub trait Arena: Moves {
+/// A value that means a whole game: the goals over its moves, which are lawful too.
+pub trait HasGoals: HasMoves {
     ghost goals: { Self → GameGoals };
 
-    law fair: { (a : Self) → LawfulGoals (Self·Moves .moves a .states) (goals a) };
+    law lawful: { (a : Self) → LawfulGoals (Self·HasMoves .moves a .states) (goals a) };
+}
 
+/// An arena: the questions about moves, sets and starts. Nothing outside the game is in a set or a start.
+pub trait Arena: Moves + HasGoals {
     fn assumptions(&self) -> u16
-        ensures { λ r. ⌜ r ≡ goals (now (self .entry)) .assumptions ⌝ };
+        ensures { λ r. ⌜ r ≡ Self·HasGoals .goals (now (self .entry)) .assumptions ⌝ };
 
     fn guarantees(&self) -> u16
-        ensures { λ r. ⌜ r ≡ goals (now (self .entry)) .guarantees ⌝ };
+        ensures { λ r. ⌜ r ≡ Self·HasGoals .goals (now (self .entry)) .guarantees ⌝ };
 
     /// Whether `state` is in assumption set `set`.
     fn in_assumption(&self, set: u16, state: u16) -> bool
-        ensures { λ r. ⌜ r ≡ goals (now (self .entry)) .assumed set state ⌝ };
+        ensures { λ r. ⌜ r ≡ Self·HasGoals .goals (now (self .entry)) .assumed set state ⌝ };
 
     /// Whether `state` is in guarantee set `set`.
     fn in_guarantee(&self, set: u16, state: u16) -> bool
-        ensures { λ r. ⌜ r ≡ goals (now (self .entry)) .guaranteed set state ⌝ };
+        ensures { λ r. ⌜ r ≡ Self·HasGoals .goals (now (self .entry)) .guaranteed set state ⌝ };
 
     fn is_start(&self, state: u16) -> bool
-        ensures { λ r. ⌜ r ≡ starts (goals (now (self .entry))) state ⌝ };
+        ensures { λ r. ⌜ r ≡ starts (Self·HasGoals .goals (now (self .entry))) state ⌝ };
 }

@@ -3,3 +3,4 @@ pub mod First
 pub mod Format
 pub mod Refusals
 pub mod Judging
+pub mod Tables

@@ -1,13 +1,19 @@
 //! Images: byte strings that spell a game.
 //!
-//! `judge` says whether bytes are an image and of which kind, or why they are refused.
+//! `judge` says whether bytes are an image and of which kind, or why they are refused. `Table::open` makes an arena of the
+//! bytes of a table.
 
 mod bytes;
-mod judge;
-
+mod judgement;
 mod kind;
 mod refusal;
+mod table;
 
-
+pub use judgement::judge;
 pub use kind::Kind;
 pub use refusal::Refusal;
+pub use table::Table;
+pub use table::TableArena;
+pub use table::TableHasGoals;
+pub use table::TableHasMoves;
+pub use table::TableMoves;

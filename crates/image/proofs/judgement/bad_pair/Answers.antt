@@ -3,7 +3,7 @@ use native.Mathlib.Omega.{arith}
 use borrow.Author.Count.{below-more}
 use Rattle.image.specs.Judging.{pair-bad}
 use Rattle.image.proofs.Searching.{found, not-found}
-use Rattle.image.proofs.judge.bad_pair.Needs as need
+use Rattle.image.proofs.judgement.bad_pair.Needs as need
 
 pub returns-then-pair-is-bad : need.returns-then-pair-is-bad
 returns-then-pair-is-bad c =

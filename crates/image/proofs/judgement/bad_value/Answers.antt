@@ -4,7 +4,7 @@ use Rattle.std.specs.Options.{isSome}
 use Rattle.image.specs.Format.{pairs-of}
 use Rattle.image.specs.Judging.{bad-cell}
 use Rattle.image.proofs.Searching.{first-none, first-here}
-use Rattle.image.proofs.judge.bad_value.Needs as need
+use Rattle.image.proofs.judgement.bad_value.Needs as need
 
 pub returns-then-is-some : need.returns-then-is-some
 returns-then-is-some c =

@@ -2,7 +2,7 @@ use mathlib.Core.Path.{_∙_, sym, ap}
 use native.Mathlib.Omega.{arith}
 use Rattle.image.specs.Format.{width-of}
 use Rattle.image.proofs.Placing.{cell-lies, bad-cell-found, no-bad-cell}
-use Rattle.image.proofs.judge.bad_cell.Needs as need
+use Rattle.image.proofs.judgement.bad_cell.Needs as need
 
 pub cell-is-bad-requires : need.cell-is-bad-requires
 cell-is-bad-requires c κs = record {

@@ -3,7 +3,7 @@ use native.Mathlib.Omega.{arith}
 use borrow.Author.Count.{below-more}
 use Rattle.image.specs.Judging.{size-bad}
 use Rattle.image.proofs.Searching.{found, not-found}
-use Rattle.image.proofs.judge.bad_size.Needs as need
+use Rattle.image.proofs.judgement.bad_size.Needs as need
 
 pub returns-then-size-is-bad : need.returns-then-size-is-bad
 returns-then-size-is-bad c =

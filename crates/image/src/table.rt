@@ -1,0 +1,163 @@
+ghost use denote.Ref.{now};
+ghost use mathlib.Core.Path.{_≡_};
+ghost use mathlib.Core.Bool.{true, _&&_};
+ghost use Prim.Native.Nat.{_+_, _*_, _^_, _<_};
+ghost use lib.Dec.{ltb};
+ghost use Rattle.image.specs.Bytes.{number-at};
+ghost use Rattle.image.specs.Format.{states-of, inputs-of, replies-of, required-size, section-at};
+ghost use Rattle.image.specs.Tables.{is-table, table-moves, table-goals, built-in, opened-bytes, flag-at};
+use crate::bytes::Section;
+use crate::bytes::number;
+use crate::judgement::judge;
+use crate::kind::BARRED;
+use crate::kind::Kind;
+use arena::Arena;
+use arena::HasGoals;
+use arena::HasMoves;
+use arena::Moves;
+use arena::Next;
+
+// The sections of a table.
+const OPEN: usize = 0;
+const TARGETS: usize = 1;
+const ASSUMPTIONS: usize = 2;
+const GUARANTEES: usize = 3;
+const STARTS: usize = 4;
+
+// The bytes of the built-in table.
+fn built_in() -> &'static [u8]
+    ensures same { λ r. ⌜ now r ≡ built-in ⌝ }
+    ensures lawful { λ r. ⌜ is-table (now r) ≡ true ⌝ }
+{
+    &[
+        1, 0, 1, 0, 1, 0, 1, 0, 1, 0, 1, 0, // a table; every count is 1
+        32, 0, 1, 0, 33, 0, 2, 0, 35, 0, 1, 0, 36, 0, 1, 0, 37, 0, 1, 0, // the pairs
+        0, 0, 0, 0, 0, 0, // closed; leads to 0; in no set; no start
+    ]
+}
+
+// The cell at a row and a column.
+fn cell(row: usize, columns: u16, column: u16) -> usize
+    requires { ⌜ row < 2 ^ 32 ⌝ }
+    ensures { λ r. ⌜ r ≡ row * columns + column ⌝ }
+{
+    row * usize::from(columns) + usize::from(column)
+}
+
+// Whether the bytes are judged to be a table.
+fn is_table(bytes: &[u8]) -> bool
+    ensures { λ r. ⌜ r ≡ is-table (now (bytes .entry)) ⌝ }
+{
+    match judge(bytes) {
+        Ok(Kind::Table) => true,
+        Err(_) => false,
+    }
+}
+
+/// A game that a table spells. Every question reads the caller's bytes.
+#[derive(Drop)]
+pub struct Table<'a> {
+    bytes: &'a [u8],
+    ghost lawful: { is-table (now bytes) ≡ true },
+}
+
+impl<'a> Table<'a> {
+    /// Opens the bytes of a table. Other bytes open the built-in table.
+    pub fn open(bytes: &'a [u8]) -> Table<'a>
+        ensures { λ r. ⌜ now (r .bytes) ≡ opened-bytes (now (bytes .entry)) ⌝ }
+    {
+        if is_table(bytes) {
+            return Table { bytes };
+        }
+        Table { bytes: built_in() }
+    }
+
+    // The number of the header at this offset.
+    fn header(&self, at: usize) -> u16
+        requires { ⌜ at + 1 < 32 ⌝ }
+        ensures { λ r. ⌜ r ≡ number-at (now (now (self .entry) .bytes)) at ⌝ }
+    {
+        number(self.bytes, at)
+    }
+
+    // Whether the flag of a section at this row and column says yes; outside its rows and columns there is none.
+    fn flag(&self, pair: usize, row: u16, rows: u16, column: u16, columns: u16) -> bool
+        requires section { ⌜ pair < 5 ⌝ }
+        requires cells { ⌜ required-size Kind.Table (now (now self .bytes)) pair ≡ rows * columns ⌝ }
+        ensures { λ r. ⌜ r ≡ (ltb row rows && (ltb column columns && flag-at (now (now (self .entry) .bytes)) pair (row * columns + column))) ⌝ }
+    {
+        if row >= rows || column >= columns {
+            return false;
+        }
+        self.bytes[Section::read(self.bytes, pair).offset + cell(usize::from(row), columns, column)] == 1
+    }
+
+    // Where a reply leads, as a number of the next states.
+    fn target(&self, state: u16, input: u16, reply: u16) -> u16
+        requires inside_states { ⌜ state < states-of (now (now self .bytes)) ⌝ }
+        requires inside_inputs { ⌜ input < inputs-of (now (now self .bytes)) ⌝ }
+        requires inside_replies { ⌜ reply < replies-of (now (now self .bytes)) ⌝ }
+        ensures { λ r. ⌜ r ≡ number-at (now (now (self .entry) .bytes)) (section-at (now (now (self .entry) .bytes)) 1 + 2 * ((state * inputs-of (now (now (self .entry) .bytes)) + input) * replies-of (now (now (self .entry) .bytes)) + reply)) ⌝ }
+    {
+        let row = cell(usize::from(state), self.inputs(), input);
+        number(self.bytes, Section::read(self.bytes, TARGETS).offset + 2 * cell(row, self.replies(), reply))
+    }
+}
+
+pub impl<'a> HasMoves for Table<'a> as TableHasMoves {
+    ghost moves = { λ t. table-moves (now (t .bytes)) };
+}
+
+pub impl<'a> Moves for Table<'a> as TableMoves {
+    fn states(&self) -> u16 {
+        self.header(2)
+    }
+
+    fn inputs(&self) -> u16 {
+        self.header(4)
+    }
+
+    fn replies(&self) -> u16 {
+        self.header(6)
+    }
+
+    fn is_open(&self, state: u16, input: u16) -> bool {
+        self.flag(OPEN, state, self.states(), input, self.inputs())
+    }
+
+    fn leads(&self, state: u16, input: u16, reply: u16) -> Next {
+        if state >= self.states() || input >= self.inputs() || reply >= self.replies() {
+            return Next::Barred;
+        }
+        match self.target(state, input, reply) {
+            BARRED => Next::Barred,
+            next => Next::To(next),
+        }
+    }
+}
+
+pub impl<'a> HasGoals for Table<'a> as TableHasGoals {
+    ghost goals = { λ t. table-goals (now (t .bytes)) };
+}
+
+pub impl<'a> Arena for Table<'a> as TableArena {
+    fn assumptions(&self) -> u16 {
+        self.header(8)
+    }
+
+    fn guarantees(&self) -> u16 {
+        self.header(10)
+    }
+
+    fn in_assumption(&self, set: u16, state: u16) -> bool {
+        self.flag(ASSUMPTIONS, set, self.assumptions(), state, self.states())
+    }
+
+    fn in_guarantee(&self, set: u16, state: u16) -> bool {
+        self.flag(GUARANTEES, set, self.guarantees(), state, self.states())
+    }
+
+    fn is_start(&self, state: u16) -> bool {
+        self.flag(STARTS, 0, 1, state, self.states())
+    }
+}
