@@ -4,3 +4,4 @@ pub mod Format
 pub mod Refusals
 pub mod Judging
 pub mod Tables
+pub mod Worked

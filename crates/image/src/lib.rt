@@ -8,6 +8,7 @@ mod judgement;
 mod kind;
 mod refusal;
 mod table;
+mod worked;
 
 pub use judgement::judge;
 pub use kind::Kind;
@@ -17,3 +18,4 @@ pub use table::TableArena;
 pub use table::TableHasGoals;
 pub use table::TableHasMoves;
 pub use table::TableMoves;
+pub use worked::worked_image;
