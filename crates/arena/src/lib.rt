@@ -11,6 +11,8 @@ ghost use Rattle.arena.specs.Next.{target};
 mod player;
 
 pub use player::Player;
+pub use player::PlayerDebug;
+pub use player::PlayerPartialEq;
 
 /// Where a reply leads.
 #[derive(Clone, Copy, PartialEq, Eq, Debug)]
