@@ -25,5 +25,4 @@ impl Player {
 // A theorem has nothing to run: its contract hands it to the caller.
 fn no_state_is_won_by_both()
     ensures { λ _. ⌜ Not-both ⌝ }
-{
-}
+{}

@@ -40,8 +40,8 @@ opened : (q x : ℕ) → table-moves worked-bytes .opened q x ≡ worked-game .m
 opened q x =
     and-last (ltb q 2) (ltb x 1) _
     (λ a b.
-      at-two (λ n. flag-at worked-bytes 0 (n * 1 + x) ≡ true) (at-one (λ n. flag-at worked-bytes 0 (0 * 1 + n) ≡ true) refl x (ltb-true _ _ b))
-      (at-one (λ n. flag-at worked-bytes 0 (1 * 1 + n) ≡ true) refl x (ltb-true _ _ b)) q (ltb-true _ _ a))
+    at-two (λ n. flag-at worked-bytes 0 (n * 1 + x) ≡ true) (at-one (λ n. flag-at worked-bytes 0 (0 * 1 + n) ≡ true) refl x (ltb-true _ _ b))
+    (at-one (λ n. flag-at worked-bytes 0 (1 * 1 + n) ≡ true) refl x (ltb-true _ _ b)) q (ltb-true _ _ a))
 
 -- The next state of a state and a reply to the one input.
 next : ℕ → ℕ → ℕ → Option ℕ
@@ -59,16 +59,16 @@ unfolding next
 leads q x y =
     cond-same (ltb q 2 && (ltb x 1 && ltb y 2)) (next q x y) (Some y) None
     (λ h.
-      let t = and-parts (ltb q 2) _ h in
-      let u = and-parts (ltb x 1) _ (t .1) in
-      next-is q x y (ltb-true _ _ (t .0)) (ltb-true _ _ (u .0)) (ltb-true _ _ (u .1)))
+    let t = and-parts (ltb q 2) _ h in
+    let u = and-parts (ltb x 1) _ (t .1) in
+    next-is q x y (ltb-true _ _ (t .0)) (ltb-true _ _ (u .0)) (ltb-true _ _ (u .1)))
 
 assumed : (i q : ℕ) → table-goals worked-bytes .assumed i q ≡ worked-game .goals .assumed i q
 assumed i q =
     and-last (ltb i 1) (ltb q 2) _
     (λ a b.
-      at-one (λ n. flag-at worked-bytes 2 (n * 2 + q) ≡ true)
-      (at-two (λ n. flag-at worked-bytes 2 (0 * 2 + n) ≡ true) refl refl q (ltb-true _ _ b)) i (ltb-true _ _ a))
+    at-one (λ n. flag-at worked-bytes 2 (n * 2 + q) ≡ true)
+    (at-two (λ n. flag-at worked-bytes 2 (0 * 2 + n) ≡ true) refl refl q (ltb-true _ _ b)) i (ltb-true _ _ a))
 
 -- A test of two flags, of which the flag at n alone says yes.
 module _ (flag : ℕ → Bool) where
@@ -94,14 +94,14 @@ unfolding first
 worked = record {
   lawful = refl;
   spells = λ i.
-    record {
-      moves = record { states = 2; inputs = 1; replies = 2; opened = λ q x. opened q x i; leads = λ q x y. leads q x y i };
-      goals = record {
-        assumptions = 1;
-        guarantees = 1;
-        assumed = λ j q. assumed j q i;
-        guaranteed = λ j q. guaranteed j q i;
-        start = λ q. start q i;
+      record {
+        moves = record { states = 2; inputs = 1; replies = 2; opened = λ q x. opened q x i; leads = λ q x y. leads q x y i };
+        goals = record {
+          assumptions = 1;
+          guarantees = 1;
+          assumed = λ j q. assumed j q i;
+          guaranteed = λ j q. guaranteed j q i;
+          start = λ q. start q i;
+        };
       };
-    };
 }

@@ -27,13 +27,13 @@ first-here zero f i l none some = absurd (omega arith)
 first-here (suc n) f i l none some =
     ⊎-elim
     (λ (same : i ≡ n).
-      let before = first-none n f (λ k b. none k (omega arith)) in
-      let here = ap f same in
-      cc)
+    let before = first-none n f (λ k b. none k (omega arith)) in
+    let here = ap f same in
+    cc)
     (λ (other : i ≡ n → ⊥).
-      let found = first-here n f i (omega (arith, other)) none some in
-      let kept = answer-kept (f i) (f n) some in
-      cc)
+    let found = first-here n f i (omega (arith, other)) none some in
+    let kept = answer-kept (f i) (f n) some in
+    cc)
     (cases-eq i n)
   where
     answer-kept : (o p : Option ℕ) → isSome o ≡ true → or-else o p ≡ o
@@ -52,6 +52,7 @@ first-none-all (suc n) f e k l =
     none-left : (o p : Option ℕ) → or-else o p ≡ None → o ≡ None
     none-left (Some x) p h = h
     none-left None p h = refl
+
     none-right : (o p : Option ℕ) → or-else o p ≡ None → p ≡ None
     none-right (Some x) p h = let z : _≡_ {A = ℕ} 0 1 = cc in absurd (omega arith)
     none-right None p h = h

@@ -90,6 +90,7 @@ sound bs e = by-length (right-length bs) refl (judged-table bs e)
         all-granted bs
         (leb-true _ _ (subst (λ (o : Option Kind). leb (least-length o) (length bs) ≡ true) k (and-parts _ _ r .0)))
         (leb-true _ _ (and-parts _ _ r .1)) h
+
     by-length : (b : Bool) → right-length bs ≡ b → cond b (judged-as (kind-of bs) bs) (Err Length) ≡ Ok Table → Sound bs
     by-length true r h = by-kind (kind-of bs) refl h r
     by-length false r h = let z : _≡_ {A = ℕ} 0 1 = cc in absurd (omega arith)
@@ -100,8 +101,8 @@ module _ (bs : List ℕ) (s : Sound bs) where
       (h : ℕ) → h < 5 → (1 ≤ number-at bs (number-offset h)) × (number-at bs (number-offset h) ≤ getD (limits-of Table) h 0)
   in-range h l =
       let fine =
-        or-parts (eqb (number-at bs (number-offset h)) 0) (ltb (getD (limits-of Table) h 0) (number-at bs (number-offset h)))
-        (passed (number-bad Table bs) number-offset 5 (s .numbers) h l)
+      or-parts (eqb (number-at bs (number-offset h)) 0) (ltb (getD (limits-of Table) h 0) (number-at bs (number-offset h)))
+      (passed (number-bad Table bs) number-offset 5 (s .numbers) h l)
       in (omega (arith, eqb-false _ _ (fine .0)), ltb-false _ _ (fine .1))
 
   -- Each section has its length.
@@ -131,10 +132,11 @@ module _ (bs : List ℕ) (s : Sound bs) where
       (q x y : ℕ) → q < states-of bs → x < inputs-of bs → y < replies-of bs →
       (q * inputs-of bs + x) * replies-of bs + y < section-size bs 1 / 2
   target-counted q x y a b c =
-      omega
-      (arith,
-      mul-add-lt (q * inputs-of bs + x) (replies-of bs) y (inputs-of bs * states-of bs) (mul-add-lt q (inputs-of bs) x (states-of bs) a b) c,
-      sized 1 (omega arith))
+      omega (
+        arith,
+        mul-add-lt (q * inputs-of bs + x) (replies-of bs) y (inputs-of bs * states-of bs) (mul-add-lt q (inputs-of bs) x (states-of bs) a b) c,
+        sized 1 (omega arith),
+      )
 
   -- It lies in the image.
   pub target-inside :

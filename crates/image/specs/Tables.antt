@@ -40,8 +40,8 @@ table-moves bs = record {
   replies = replies-of bs;
   opened = λ q x. ltb q (states-of bs) && (ltb x (inputs-of bs) && flag-at bs 0 (q * inputs-of bs + x));
   leads = λ q x y.
-    cond (ltb q (states-of bs) && (ltb x (inputs-of bs) && ltb y (replies-of bs)))
-    (target-of (number-at bs (section-at bs 1 + 2 * ((q * inputs-of bs + x) * replies-of bs + y)))) None;
+      cond (ltb q (states-of bs) && (ltb x (inputs-of bs) && ltb y (replies-of bs)))
+      (target-of (number-at bs (section-at bs 1 + 2 * ((q * inputs-of bs + x) * replies-of bs + y)))) None;
 }
 
 -- The goals that a table spells: assumptions in section 2, guarantees in section 3, starts in section 4.

@@ -9,8 +9,8 @@ use crate::bytes::number;
 use crate::kind::Kind;
 use crate::refusal::Refusal;
 
-// The greatest length of an image.
-const GREATEST_LENGTH: usize = 65535;
+/// The greatest length of an image.
+pub const GREATEST_LENGTH: usize = 65535;
 
 // Whether header number `h` after the kind is out of range.
 fn number_is_bad(kind: Kind, bytes: &[u8], h: usize) -> bool

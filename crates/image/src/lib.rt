@@ -10,9 +10,14 @@ mod refusal;
 mod table;
 mod worked;
 
+pub use judgement::GREATEST_LENGTH;
 pub use judgement::judge;
 pub use kind::Kind;
+pub use kind::KindDebug;
+pub use kind::KindPartialEq;
 pub use refusal::Refusal;
+pub use refusal::RefusalDebug;
+pub use refusal::RefusalPartialEq;
 pub use table::Table;
 pub use table::TableArena;
 pub use table::TableHasGoals;

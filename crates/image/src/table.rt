@@ -19,21 +19,23 @@ use arena::Next;
 
 // The sections of a table.
 const OPEN: usize = 0;
+
 const TARGETS: usize = 1;
+
 const ASSUMPTIONS: usize = 2;
+
 const GUARANTEES: usize = 3;
+
 const STARTS: usize = 4;
 
-// The bytes of the built-in table.
+// The bytes of the built-in table: every count is 1; the pairs; and then closed, leads to 0, in no set, no start.
 fn built_in() -> &'static [u8]
     ensures same { λ r. ⌜ now r ≡ built-in ⌝ }
     ensures lawful { λ r. ⌜ is-table (now r) ≡ true ⌝ }
 {
-    &[
-        1, 0, 1, 0, 1, 0, 1, 0, 1, 0, 1, 0, // a table; every count is 1
-        32, 0, 1, 0, 33, 0, 2, 0, 35, 0, 1, 0, 36, 0, 1, 0, 37, 0, 1, 0, // the pairs
-        0, 0, 0, 0, 0, 0, // closed; leads to 0; in no set; no start
-    ]
+    b"\x01\0\x01\0\x01\0\x01\0\x01\0\x01\0\
+      \x20\0\x01\0\x21\0\x02\0\x23\0\x01\0\x24\0\x01\0\x25\0\x01\0\
+      \0\0\0\0\0\0"
 }
 
 // The cell at a row and a column.
@@ -89,7 +91,8 @@ impl<'a> Table<'a> {
         if row >= rows || column >= columns {
             return false;
         }
-        self.bytes[Section::read(self.bytes, pair).offset + cell(usize::from(row), columns, column)] == 1
+        self.bytes[Section::read(self.bytes, pair).offset + cell(usize::from(row), columns, column)]
+            == 1
     }
 
     // Where a reply leads, as a number of the next states.
@@ -100,7 +103,10 @@ impl<'a> Table<'a> {
         ensures { λ r. ⌜ r ≡ number-at (now (now (self .entry) .bytes)) (section-at (now (now (self .entry) .bytes)) 1 + 2 * ((state * inputs-of (now (now (self .entry) .bytes)) + input) * replies-of (now (now (self .entry) .bytes)) + reply)) ⌝ }
     {
         let row = cell(usize::from(state), self.inputs(), input);
-        number(self.bytes, Section::read(self.bytes, TARGETS).offset + 2 * cell(row, self.replies(), reply))
+        number(
+            self.bytes,
+            Section::read(self.bytes, TARGETS).offset + 2 * cell(row, self.replies(), reply),
+        )
     }
 }
 

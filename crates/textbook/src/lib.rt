@@ -39,7 +39,11 @@ fn players(heap: Global, set: &StateSet, states: u16) -> Result<Vec<Player>, All
 {
     let mut players = Vec::new(heap);
     for state in 0..states {
-        let player = if set.contains(state) { Player::Controller } else { Player::Environment };
+        let player = if set.contains(state) {
+            Player::Controller
+        } else {
+            Player::Environment
+        };
         players.push(player)?;
     }
     Ok(players)

@@ -48,7 +48,10 @@ fn solve<A: Arena>(heap: Global, arena: &A) -> Result<Verdicts, AllocError>
 {
     let winners = textbook::winners(heap, arena)?;
     let realizable = starts_are_won(arena, winners.as_slice());
-    Ok(Verdicts { winners, realizable })
+    Ok(Verdicts {
+        winners,
+        realizable,
+    })
 }
 
 // Whether every start is the controller's.

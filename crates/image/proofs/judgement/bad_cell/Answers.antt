@@ -9,9 +9,9 @@ cell-is-bad-requires c κs = record {
   inside = c .pre .inside;
   long = c .pre .long;
   lies =
-    cell-lies (c .args .kind) (c .args .bytes .now) (c .args .pair) _ _ _ (c .read-section .ensures .begins)
-    (c .read-section .ensures .sized) (c .width-width .ensures ∙ ap width-of (c .cell .ensures)) (c .pre .ordered)
-    (c .pre .inside) (c .loop-cell .cell) (c .loop-cell-test .taken);
+      cell-lies (c .args .kind) (c .args .bytes .now) (c .args .pair) _ _ _ (c .read-section .ensures .begins)
+      (c .read-section .ensures .sized) (c .width-width .ensures ∙ ap width-of (c .cell .ensures)) (c .pre .ordered)
+      (c .pre .inside) (c .loop-cell .cell) (c .loop-cell-test .taken);
 }
 
 pub returns-then-cell-is-bad : need.returns-then-cell-is-bad

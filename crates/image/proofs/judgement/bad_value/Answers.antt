@@ -10,8 +10,8 @@ pub returns-then-is-some : need.returns-then-is-some
 returns-then-is-some c =
     c .bad-cell-at .ensures
     ∙ sym
-      (first-here (pairs-of (c .args .kind)) (bad-cell (c .args .kind) (c .args .bytes .now)) (c .loop-pair .pair) (omega arith)
-      (c .loop-pair .inv) (sym (c .if-is-some .ensures tt ∙ ap isSome (c .bad-cell-at .ensures))))
+    (first-here (pairs-of (c .args .kind)) (bad-cell (c .args .kind) (c .args .bytes .now)) (c .loop-pair .pair) (omega arith)
+    (c .loop-pair .inv) (sym (c .if-is-some .ensures tt ∙ ap isSome (c .bad-cell-at .ensures))))
 
 pub returns : need.returns
 returns c =

@@ -13,6 +13,6 @@ pub returns-in-Some : need.returns-in-Some
 returns-in-Some c =
     made-weaker (c .format .result) _ _
     (λ s e.
-      e ∙ ap (λ (x : List ℕ). codes " " ++ x) (sym (append-nil (decimal (c .in-Some .value))))
-      ∙ ap (λ (o : Option ℕ). spaced-numbers (listOf o)) (sym (c .in-Some .is)))
+    e ∙ ap (λ (x : List ℕ). codes " " ++ x) (sym (append-nil (decimal (c .in-Some .value))))
+    ∙ ap (λ (o : Option ℕ). spaced-numbers (listOf o)) (sym (c .in-Some .is)))
     (c .format .ensures .made)

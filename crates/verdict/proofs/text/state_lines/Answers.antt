@@ -16,7 +16,7 @@ line-more : (bs cs : List ℕ) (ws : List Player) (i : ℕ) (all : List ℕ) →
     cs ++ state-lines (i + 1) (drop (i + 1) ws) ≡ all
 line-more bs cs ws i all l before e =
     let step : state-lines i (drop i ws) ≡ state-line i (getD ws i Controller) ++ state-lines (i + 1) (drop (i + 1) ws) =
-      at-drop-more (state-lines i) ws i Controller l in
+    at-drop-more (state-lines i) ws i Controller l in
     ap (λ (x : List ℕ). x ++ state-lines (i + 1) (drop (i + 1) ws)) e
     ∙ append-assoc bs (state-line i (getD ws i Controller)) (state-lines (i + 1) (drop (i + 1) ws))
     ∙ ap (λ (x : List ℕ). bs ++ x) (sym step) ∙ before
@@ -32,5 +32,5 @@ pub returns : need.returns
 returns c =
     sym (append-nil _)
     ∙ ap (λ (x : List ℕ). string-bytes (c .loop-state .lines) ++ x)
-      (sym (at-drop-all (state-lines (c .loop-state .state)) (c .args .winners .now) (c .loop-state .state) (c .loop-state-test .left)))
+    (sym (at-drop-all (state-lines (c .loop-state .state)) (c .args .winners .now) (c .loop-state .state) (c .loop-state-test .left)))
     ∙ c .loop-state .inv

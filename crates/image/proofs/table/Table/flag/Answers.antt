@@ -12,7 +12,10 @@ pub index-self-read : need.index-self-read
 index-self-read c =
     let bs = c .args .self .now .bytes .now in
     let place : c .cell .result ≡ c .args .row * c .args .columns + c .args .column = cc in
-    omega
-    (arith, place, c .read .ensures .begins,
-    flag-inside bs (sound bs (c .args .self .now .lawful)) (c .args .pair) (c .args .row) (c .args .rows) (c .args .column)
-    (c .args .columns) (c .pre .section) (c .pre .cells) (c .if-row-rows .left) (c .if-column-columns .left))
+    omega (
+      arith,
+      place,
+      c .read .ensures .begins,
+      flag-inside bs (sound bs (c .args .self .now .lawful)) (c .args .pair) (c .args .row) (c .args .rows) (c .args .column)
+          (c .args .columns) (c .pre .section) (c .pre .cells) (c .if-row-rows .left) (c .if-column-columns .left),
+    )
