@@ -7,10 +7,8 @@ use lib.Dec.{eqb, ltb}
 use Rattle.std.specs.declared.option.Option.{Option}
 use Rattle.std.specs.declared.option.Option.the-variants.{Some, None}
 use Rattle.std.proofs.shelf.Tests.{ltb-true, le-ltb, ne-eqb, and-parts}
-use Rattle.image.specs.Bytes.{number-at}
 use Rattle.image.specs.First.{first}
-use Rattle.image.specs.Format.{section-at}
-use Rattle.image.specs.Tables.{flag-at, target-of, table-moves, table-goals}
+use Rattle.image.specs.Tables.{flag-at, target-at, target-of, table-moves, table-goals}
 use Rattle.image.specs.Worked.{Worked, worked-bytes, worked-game}
 
 -- What holds at 0, and at 0 and 1.
@@ -45,7 +43,7 @@ opened q x =
 
 -- The next state of a state and a reply to the one input.
 next : ℕ → ℕ → ℕ → Option ℕ
-next q x y = target-of (number-at worked-bytes (section-at worked-bytes 1 + 2 * ((q * 1 + x) * 2 + y)))
+next q x y = target-of (target-at worked-bytes q x y)
 
 next-is : (q x y : ℕ) → q < 2 → x < 1 → y < 2 → next q x y ≡ Some y
 unfolding next

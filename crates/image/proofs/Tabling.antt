@@ -48,7 +48,7 @@ use Rattle.image.specs.Judging.{
   bad-cell,
   bad-value,
 }
-use Rattle.image.specs.Tables.{is-table, says-table, target-of, table-moves, table-goals}
+use Rattle.image.specs.Tables.{is-table, says-table, target-at, target-of, table-moves, table-goals}
 use Rattle.image.proofs.Searching.{passed, first-none-all}
 use Rattle.image.proofs.Placing.{section-inside}
 
@@ -147,7 +147,7 @@ module _ (bs : List ℕ) (s : Sound bs) where
   -- It names a state of the game, or none.
   pub target-lawful :
       (q x y p : ℕ) → q < states-of bs → x < inputs-of bs → y < replies-of bs →
-      target-of (number-at bs (section-at bs 1 + 2 * ((q * inputs-of bs + x) * replies-of bs + y))) ≡ Some p → p < states-of bs
+      target-of (target-at bs q x y) ≡ Some p → p < states-of bs
   target-lawful q x y p a b c e = named _ (target-allowed _ (target-counted q x y a b c)) e
     where
       named : (n : ℕ) → (ltb n (states-of bs) || eqb n 65535) ≡ true → target-of n ≡ Some p → p < states-of bs
@@ -167,7 +167,7 @@ module _ (bs : List ℕ) (s : Sound bs) where
     where
       go :
           (b : Bool) → (ltb q (states-of bs) && (ltb x (inputs-of bs) && ltb y (replies-of bs))) ≡ b →
-          cond b (target-of (number-at bs (section-at bs 1 + 2 * ((q * inputs-of bs + x) * replies-of bs + y)))) None ≡ Some p →
+          cond b (target-of (target-at bs q x y)) None ≡ Some p →
           ((q < states-of bs) × (x < inputs-of bs) × (y < replies-of bs)) × (p < states-of bs)
       go true f u =
           let t = and-parts _ _ f in

@@ -28,6 +28,10 @@ is-table bs = says-table (judged bs)
 abbrev pub flag-at : List ℕ → ℕ → ℕ → Bool
 flag-at bs i c = eqb (byte-at bs (section-at bs i + c)) 1
 
+-- The next state of state q, input x and reply y, as a number.
+abbrev pub target-at : List ℕ → ℕ → ℕ → ℕ → ℕ
+target-at bs q x y = number-at bs (section-at bs 1 + 2 * ((q * inputs-of bs + x) * replies-of bs + y))
+
 -- The state that a next state names: none at 65535.
 abbrev pub target-of : ℕ → Option ℕ
 target-of n = cond (eqb n 65535) None (Some n)
@@ -41,7 +45,7 @@ table-moves bs = record {
   opened = λ q x. ltb q (states-of bs) && (ltb x (inputs-of bs) && flag-at bs 0 (q * inputs-of bs + x));
   leads = λ q x y.
       cond (ltb q (states-of bs) && (ltb x (inputs-of bs) && ltb y (replies-of bs)))
-      (target-of (number-at bs (section-at bs 1 + 2 * ((q * inputs-of bs + x) * replies-of bs + y)))) None;
+      (target-of (target-at bs q x y)) None;
 }
 
 -- The goals that a table spells: assumptions in section 2, guarantees in section 3, starts in section 4.

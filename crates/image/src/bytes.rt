@@ -4,6 +4,17 @@ ghost use lib.ListN.{length};
 ghost use Rattle.image.specs.Bytes.{number-at};
 ghost use Rattle.image.specs.Format.{section-at, section-size};
 
+// Where the header numbers after the kind stand.
+pub(crate) const STATES: usize = 2;
+
+pub(crate) const INPUTS: usize = 4;
+
+pub(crate) const REPLIES: usize = 6;
+
+pub(crate) const ASSUMPTION_SETS: usize = 8;
+
+pub(crate) const GUARANTEE_SETS: usize = 10;
+
 // The number at an offset.
 pub(crate) fn number(bytes: &[u8], at: usize) -> u16
     requires { ⌜ at + 1 < length (now bytes) ⌝ }

@@ -1,7 +1,12 @@
 ghost use mathlib.Core.Path.{_≡_};
 ghost use Prim.Native.Nat.{_+_, _<_, _≤_};
-ghost use lib.ListN.{length};
-ghost use Rattle.image.specs.Format.{kind-of, pairs-of, header-end, least-length, limits-of, required-size, cell-of, width-of, value-at, allowed};
+ghost use lib.ListN.{length, getD};
+ghost use Rattle.image.specs.Format.{kind-of, pairs-of, header-end, least-length, limits-of, table-sizes, required-size, cell-of, width-of, value-at, allowed};
+use crate::bytes::ASSUMPTION_SETS;
+use crate::bytes::GUARANTEE_SETS;
+use crate::bytes::INPUTS;
+use crate::bytes::REPLIES;
+use crate::bytes::STATES;
 use crate::bytes::number;
 
 /// The formats of an image.
@@ -64,17 +69,8 @@ impl Kind {
         requires { ⌜ header-end self ≤ length (now bytes) ⌝ }
         ensures { λ r. ⌜ r ≡ required-size self (now (bytes .entry)) pair ⌝ }
     {
-        let Kind::Table = self;
-        let states = usize::from(number(bytes, 2));
-        let inputs = usize::from(number(bytes, 4));
-        let replies = usize::from(number(bytes, 6));
-        match pair {
-            0 => states * inputs,
-            1 => states * inputs * replies * 2,
-            2 => usize::from(number(bytes, 8)) * states,
-            3 => usize::from(number(bytes, 10)) * states,
-            4 => states,
-            _ => 0,
+        match self {
+            Kind::Table => table_size(bytes, pair),
         }
     }
 
@@ -86,6 +82,24 @@ impl Kind {
             Kind::Table if pair == 1 => Cell::Target,
             Kind::Table => Cell::Flag,
         }
+    }
+}
+
+// How many bytes the section of a pair of a table must have.
+fn table_size(bytes: &[u8], pair: usize) -> usize
+    requires { ⌜ 32 ≤ length (now bytes) ⌝ }
+    ensures { λ r. ⌜ r ≡ getD (table-sizes (now (bytes .entry))) pair 0 ⌝ }
+{
+    let states = usize::from(number(bytes, STATES));
+    let inputs = usize::from(number(bytes, INPUTS));
+    let replies = usize::from(number(bytes, REPLIES));
+    match pair {
+        0 => states * inputs,
+        1 => states * inputs * replies * 2,
+        2 => usize::from(number(bytes, ASSUMPTION_SETS)) * states,
+        3 => usize::from(number(bytes, GUARANTEE_SETS)) * states,
+        4 => states,
+        _ => 0,
     }
 }
 
@@ -125,7 +139,7 @@ impl Cell {
     {
         match self {
             Cell::Flag => value <= 1,
-            Cell::Target => value < number(bytes, 2) || value == BARRED,
+            Cell::Target => value < number(bytes, STATES) || value == BARRED,
         }
     }
 }

@@ -4,8 +4,13 @@ ghost use mathlib.Core.Bool.{true, _&&_};
 ghost use Prim.Native.Nat.{_+_, _*_, _^_, _<_};
 ghost use lib.Dec.{ltb};
 ghost use Rattle.image.specs.Bytes.{number-at};
-ghost use Rattle.image.specs.Format.{states-of, inputs-of, replies-of, required-size, section-at};
-ghost use Rattle.image.specs.Tables.{is-table, table-moves, table-goals, built-in, opened-bytes, flag-at};
+ghost use Rattle.image.specs.Format.{states-of, inputs-of, replies-of, required-size};
+ghost use Rattle.image.specs.Tables.{is-table, table-moves, table-goals, built-in, opened-bytes, flag-at, target-at};
+use crate::bytes::ASSUMPTION_SETS;
+use crate::bytes::GUARANTEE_SETS;
+use crate::bytes::INPUTS;
+use crate::bytes::REPLIES;
+use crate::bytes::STATES;
 use crate::bytes::Section;
 use crate::bytes::number;
 use crate::judgement::judge;
@@ -41,7 +46,8 @@ fn built_in() -> &'static [u8]
 // The cell at a row and a column.
 fn cell(row: usize, columns: u16, column: u16) -> usize
     requires { ⌜ row < 2 ^ 32 ⌝ }
-    ensures { λ r. ⌜ r ≡ row * columns + column ⌝ }
+    ensures value { λ r. ⌜ r ≡ row * columns + column ⌝ }
+    ensures small { λ r. ⌜ r < 2 ^ 48 ⌝ }
 {
     row * usize::from(columns) + usize::from(column)
 }
@@ -91,8 +97,8 @@ impl<'a> Table<'a> {
         if row >= rows || column >= columns {
             return false;
         }
-        self.bytes[Section::read(self.bytes, pair).offset + cell(usize::from(row), columns, column)]
-            == 1
+        let at = Section::read(self.bytes, pair).offset + cell(usize::from(row), columns, column);
+        self.bytes[at] == 1
     }
 
     // Where a reply leads, as a number of the next states.
@@ -100,13 +106,11 @@ impl<'a> Table<'a> {
         requires inside_states { ⌜ state < states-of (now (now self .bytes)) ⌝ }
         requires inside_inputs { ⌜ input < inputs-of (now (now self .bytes)) ⌝ }
         requires inside_replies { ⌜ reply < replies-of (now (now self .bytes)) ⌝ }
-        ensures { λ r. ⌜ r ≡ number-at (now (now (self .entry) .bytes)) (section-at (now (now (self .entry) .bytes)) 1 + 2 * ((state * inputs-of (now (now (self .entry) .bytes)) + input) * replies-of (now (now (self .entry) .bytes)) + reply)) ⌝ }
+        ensures { λ r. ⌜ r ≡ target-at (now (now (self .entry) .bytes)) state input reply ⌝ }
     {
         let row = cell(usize::from(state), self.inputs(), input);
-        number(
-            self.bytes,
-            Section::read(self.bytes, TARGETS).offset + 2 * cell(row, self.replies(), reply),
-        )
+        let at = Section::read(self.bytes, TARGETS).offset + 2 * cell(row, self.replies(), reply);
+        number(self.bytes, at)
     }
 }
 
@@ -116,15 +120,15 @@ pub impl<'a> HasMoves for Table<'a> as TableHasMoves {
 
 pub impl<'a> Moves for Table<'a> as TableMoves {
     fn states(&self) -> u16 {
-        self.header(2)
+        self.header(STATES)
     }
 
     fn inputs(&self) -> u16 {
-        self.header(4)
+        self.header(INPUTS)
     }
 
     fn replies(&self) -> u16 {
-        self.header(6)
+        self.header(REPLIES)
     }
 
     fn is_open(&self, state: u16, input: u16) -> bool {
@@ -148,11 +152,11 @@ pub impl<'a> HasGoals for Table<'a> as TableHasGoals {
 
 pub impl<'a> Arena for Table<'a> as TableArena {
     fn assumptions(&self) -> u16 {
-        self.header(8)
+        self.header(ASSUMPTION_SETS)
     }
 
     fn guarantees(&self) -> u16 {
-        self.header(10)
+        self.header(GUARANTEE_SETS)
     }
 
     fn in_assumption(&self, set: u16, state: u16) -> bool {

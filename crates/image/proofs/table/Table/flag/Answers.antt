@@ -8,8 +8,8 @@ pub read-requires : need.read-requires
 read-requires c κs =
     omega (arith, c .pre .section, sound (c .args .self .now .bytes .now) (c .args .self .now .lawful) .long)
 
-pub index-self-read : need.index-self-read
-index-self-read c =
+pub index-self-at : need.index-self-at
+index-self-at c =
     let bs = c .args .self .now .bytes .now in
     let place : c .cell .result ≡ c .args .row * c .args .columns + c .args .column = cc in
     omega (

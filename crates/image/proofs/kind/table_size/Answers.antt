@@ -1,7 +1,7 @@
 use Prim.Native.Nat.{_*_, _≤_}
 use native.Mathlib.Omega.{arith}
 use Rattle.std.proofs.shelf.Bits.{mul-le}
-use Rattle.image.proofs.kind.Kind.required_size.Needs as need
+use Rattle.image.proofs.kind.table_size.Needs as need
 
 pub mul-result-in-1-3 : need.mul-result-in-1-3
 mul-result-in-1-3 c =
