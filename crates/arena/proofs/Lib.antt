@@ -1,1 +1,2 @@
 pub mod NotBoth
+pub mod SmallGames

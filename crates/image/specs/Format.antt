@@ -33,19 +33,23 @@ least-length (Some k) = header-end k
 abbrev pub greatest-length : ℕ
 greatest-length = 65535
 
--- What the numbers after the kind count: states, inputs, replies, assumption sets and guarantee sets.
+-- N: how many states there are.
 abbrev pub states-of : List ℕ → ℕ
 states-of bs = number-at bs 2
 
+-- I: how many inputs there are.
 abbrev pub inputs-of : List ℕ → ℕ
 inputs-of bs = number-at bs 4
 
+-- R: how many replies there are.
 abbrev pub replies-of : List ℕ → ℕ
 replies-of bs = number-at bs 6
 
+-- m: how many assumption sets there are.
 abbrev pub assumptions-of : List ℕ → ℕ
 assumptions-of bs = number-at bs 8
 
+-- k: how many guarantee sets there are.
 abbrev pub guarantees-of : List ℕ → ℕ
 guarantees-of bs = number-at bs 10
 

@@ -35,7 +35,7 @@ use Rattle.image.specs.Format.{
 abbrev pub right-length : List ℕ → Bool
 right-length bs = leb (least-length (kind-of bs)) (length bs) && leb (length bs) greatest-length
 
--- Where the header number after the kind stands that is number h of them.
+-- Where header number h stands, counted from 0 after the kind.
 abbrev pub number-offset : ℕ → ℕ
 number-offset h = 2 + 2 * h
 
@@ -47,7 +47,7 @@ number-bad k bs h = eqb (number-at bs (number-offset h)) 0 || ltb (getD (limits-
 abbrev pub bad-number : Kind → List ℕ → Option ℕ
 bad-number k bs = first 5 (λ h. value-if (number-bad k bs h) (number-offset h))
 
--- Where section i may begin at the earliest: after the header, and after the section before it.
+-- Where section i may begin at the earliest: after the header, or after the section before it, which itself does.
 abbrev pub earliest-start : Kind → List ℕ → ℕ → ℕ
 earliest-start k bs i = cond (eqb i 0) (header-end k) (section-at bs (i - 1) + section-size bs (i - 1))
 

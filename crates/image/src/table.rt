@@ -102,7 +102,7 @@ impl<'a> Table<'a> {
     }
 
     // Where a reply leads, as a number of the next states.
-    fn target(&self, state: u16, input: u16, reply: u16) -> u16
+    fn next_number(&self, state: u16, input: u16, reply: u16) -> u16
         requires inside_states { ⌜ state < states-of (now (now self .bytes)) ⌝ }
         requires inside_inputs { ⌜ input < inputs-of (now (now self .bytes)) ⌝ }
         requires inside_replies { ⌜ reply < replies-of (now (now self .bytes)) ⌝ }
@@ -139,7 +139,7 @@ pub impl<'a> Moves for Table<'a> as TableMoves {
         if state >= self.states() || input >= self.inputs() || reply >= self.replies() {
             return Next::Barred;
         }
-        match self.target(state, input, reply) {
+        match self.next_number(state, input, reply) {
             BARRED => Next::Barred,
             next => Next::To(next),
         }
