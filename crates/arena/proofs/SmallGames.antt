@@ -1,18 +1,15 @@
 -- Who wins the small games.
-use mathlib.Core.Path.{_≡_, refl, sym, _∙_, ap, subst}
-use mathlib.Core.Bool.{Bool, true, false, cond, not, _&&_, _||_}
+use mathlib.Core.Path.{_≡_, refl, sym, _∙_}
+use mathlib.Core.Bool.{Bool, true, false, cond, _&&_}
 use mathlib.Core.List.{[], _∷_}
-use Prim.Native.Nat.{ℕ, zero, suc, _<_, _≤_}
+use Prim.Native.Nat.{ℕ, zero, suc, _<_}
 use native.Mathlib.Omega.{arith}
 use lib.Dec.{eqb, ltb}
-use Rattle.std.specs.declared.option.Option.{Option}
 use Rattle.std.specs.declared.option.Option.the-variants.{Some, None}
-use Rattle.std.proofs.shelf.Tests.{and-parts, and-from, eq-eqb, lt-ltb, cond-true, false≢true}
-use Rattle.arena.specs.declared.player.Player.the-variants.{Controller, Environment}
-use Rattle.arena.specs.Game.{Game}
-use Rattle.arena.specs.Play.{Past, Reaches, Step, Play, Again, Controllers}
+use Rattle.std.proofs.shelf.Tests.{and-parts, and-from, eqb-true, eq-eqb, lt-ltb, cond-true, false≢true}
+use Rattle.arena.specs.Play.{Past, Reaches, Play, Again}
 use Rattle.arena.specs.Winner.{ControllerWinsBy, EnvironmentWinsBy}
-use Rattle.arena.specs.Examples.{one-state, One-state, matching, Replies-second, Known}
+use Rattle.arena.specs.Examples.{one-state, One-state, One-state-lawful, One-state-barred, matching, Known}
 
 -- A reply that leads somewhere under a test passed the test, and led where it says.
 led : (b : Bool) (n p : ℕ) → cond b (Some n) None ≡ Some p → (b ≡ true) × (n ≡ p)
@@ -84,6 +81,49 @@ one-state-known true true a true = (_, controller-guaranteed a)
 one-state-known true true false false = (_, controller-unassumed false)
 one-state-known true true true false = (_, environment-unguaranteed)
 
+-- What two tests after a first say of the numbers tested.
+both-zero : (b : Bool) (m n : ℕ) → (b && (eqb m 0 && eqb n 0)) ≡ true → (m < 1) × (n < 1)
+both-zero b m n e =
+    let t = and-parts (eqb m 0) (eqb n 0) (and-parts b _ e .1) in
+    let a = eqb-true m 0 (t .0) in
+    let c = eqb-true n 0 (t .1) in
+    (omega arith, omega arith)
+
+one-state-lawful : One-state-lawful
+one-state-lawful o l a g = record {
+  moves = record {
+    some-state = omega arith;
+    few-states = omega arith;
+    some-input = omega arith;
+    few-inputs = omega arith;
+    some-reply = omega arith;
+    few-replies = omega arith;
+    opened-inside = λ q x e. both-zero o q x e;
+    leads-from-inside = λ q x y p e. asked q x y p e;
+    leads-inside = λ q x y p e. let z = led _ 0 p e .1 in omega arith;
+  };
+  goals = record {
+    some-assumption = omega arith;
+    few-assumptions = omega arith;
+    some-guarantee = omega arith;
+    few-guarantees = omega arith;
+    assumed-inside = λ i q e. both-zero a i q e;
+    guaranteed-inside = λ j q e. both-zero g j q e;
+    starts-inside = λ q e. let z = eqb-true q 0 e in omega arith;
+  };
+}
+  where
+    asked :
+        (q x y p : ℕ) → one-state o l a g .moves .leads q x y ≡ Some p → (q < 1) × (x < 1) × (y < 1)
+    asked q x y p e =
+        let t = and-parts (eqb q 0) (eqb x 0 && eqb y 0) (and-parts l _ (led _ 0 p e .0) .1) in
+        let u = both-zero (eqb q 0) x y (and-from _ _ (t .0) (t .1)) in
+        let z = eqb-true q 0 (t .0) in
+        (omega arith, u .0, u .1)
+
+one-state-barred : One-state-barred
+one-state-barred o l a g = refl
+
 -- ── The game of matching ───────────────────────────────────────────────────────────────────────
 
 -- The controller repeats the input.
@@ -101,4 +141,9 @@ matches q = record {
         sym (led _ (cond (eqb (p .input n) (p .reply n)) 1 0) _ (p .goes-on n .is-legal) .1) ∙ cond-true _ 1 0 (eq-eqb _ _ same)
 
 pub known : Known
-known = record { one-state = one-state-known; replies-second = ((_, matches 0), (_, matches 1)) }
+known = record {
+  one-state = one-state-known;
+  one-state-lawful = one-state-lawful;
+  one-state-barred = one-state-barred;
+  replies-second = ((_, matches 0), (_, matches 1));
+}

@@ -1,12 +1,10 @@
 -- Small games whose winners are known beforehand. Assumes nothing.
 use mathlib.Core.Path.{_≡_}
-use mathlib.Core.Bool.{Bool, true, cond, not, _&&_, _||_}
-use Prim.Native.Nat.{ℕ}
+use mathlib.Core.Bool.{Bool, true, false, cond, not, _&&_, _||_}
 use lib.Dec.{eqb, ltb}
 use Rattle.std.specs.declared.option.Option.the-variants.{Some, None}
-use Rattle.arena.specs.declared.player.Player.{Player}
 use Rattle.arena.specs.declared.player.Player.the-variants.{Controller, Environment}
-use Rattle.arena.specs.Game.{Game}
+use Rattle.arena.specs.Game.{Game, Lawful, barring}
 use Rattle.arena.specs.Winner.{Wins}
 
 -- The game of one state, one input, one reply and one set of each kind: the input is open or not, the reply legal (it leads
@@ -39,6 +37,15 @@ abbrev pub One-state : Type 0
 One-state =
     (o l a g : Bool) → Wins (one-state o l a g) (cond (controllers-one-state o l a g) Controller Environment) 0
 
+-- Every game of one state is lawful.
+abbrev pub One-state-lawful : Type 0
+One-state-lawful = (o l a g : Bool) → Lawful (one-state o l a g)
+
+-- Where the one reply is barred besides, the game of one state is the one whose reply is not legal.
+abbrev pub One-state-barred : Type 0
+One-state-barred =
+    (o l a g : Bool) → barring (λ q x y. true) (one-state o l a g .moves) ≡ one-state o false a g .moves
+
 -- The game of matching: two states, inputs and replies, all open. The next state is 1 if the reply equals the input, else 0;
 -- both states are assumed, and state 1 is guaranteed.
 abbrev pub matching : Game
@@ -63,7 +70,9 @@ matching = record {
 abbrev pub Replies-second : Type 0
 Replies-second = Wins matching Controller 0 × Wins matching Controller 1
 
--- Who wins the small games.
+-- What is known of the small games.
 pub record Known : Type 0 where
   pub one-state : One-state
+  pub one-state-lawful : One-state-lawful
+  pub one-state-barred : One-state-barred
   pub replies-second : Replies-second

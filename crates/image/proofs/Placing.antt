@@ -1,5 +1,5 @@
 -- Where the sections of an image lie.
-use mathlib.Core.Path.{_≡_, subst, subst₂, sym, _∙_, ap}
+use mathlib.Core.Path.{_≡_, subst₂, sym}
 use mathlib.Core.Bool.{true, false}
 use mathlib.Core.List.{List}
 use Prim.Native.Nat.{ℕ, _+_, _*_, _/_, _<_, _≤_}

@@ -1,6 +1,6 @@
 -- What holds of the bytes of a table, and that the game they spell is lawful.
-use mathlib.Core.Path.{_≡_, refl, sym, _∙_, ap, subst}
-use mathlib.Core.Bool.{Bool, true, false, cond, not, _&&_, _||_}
+use mathlib.Core.Path.{_≡_, refl, sym, _∙_, subst}
+use mathlib.Core.Bool.{Bool, true, false, cond, _&&_, _||_}
 use mathlib.Core.List.{List}
 use mathlib.Core.Logic.{⊎-elim}
 use Prim.Native.Nat.{ℕ, _+_, _*_, _/_, _<_, _≤_}
@@ -11,7 +11,7 @@ use Rattle.std.specs.declared.option.Option.{Option}
 use Rattle.std.specs.declared.option.Option.the-variants.{Some, None}
 use Rattle.std.specs.declared.result.Result.{Result}
 use Rattle.std.specs.declared.result.Result.the-variants.{Ok, Err}
-use Rattle.std.proofs.shelf.Tests.{and-parts, or-parts, or-cases, not-false, false≢true, ltb-true, ltb-false, leb-true, eqb-true, eqb-false, cases-bool}
+use Rattle.std.proofs.shelf.Tests.{and-parts, or-parts, or-cases, not-false, false≢true, ltb-true, ltb-false, leb-true, eqb-true, eqb-false}
 use Rattle.std.proofs.shelf.Bits.{mul-add-lt}
 use Rattle.arena.specs.Game.{LawfulMoves, LawfulGoals}
 use Rattle.image.specs.declared.kind.Kind.{Kind}
@@ -25,8 +25,6 @@ use Rattle.image.specs.Format.{
   states-of,
   inputs-of,
   replies-of,
-  assumptions-of,
-  guarantees-of,
   limits-of,
   section-at,
   section-size,

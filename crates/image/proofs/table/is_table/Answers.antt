@@ -1,4 +1,4 @@
-use mathlib.Core.Path.{_≡_, refl, sym, ap, _∙_}
+use mathlib.Core.Path.{_≡_, refl, ap, _∙_}
 use mathlib.Core.Bool.{true}
 use Rattle.std.specs.declared.result.Result.the-variants.{Ok}
 use Rattle.image.specs.declared.kind.Kind.{Kind}
