@@ -49,7 +49,8 @@ pub record LawfulMoves (m : GameMoves) : Type 0 where
   pub leads-from-inside : (q x y p : ℕ) → m .leads q x y ≡ Some p → (q < m .states) × (x < m .inputs) × (y < m .replies)
   pub leads-inside : (q x y p : ℕ) → m .leads q x y ≡ Some p → p < m .states
 
--- Goals over n states are lawful if there are 1 to 8 sets of each kind, and if nothing outside the game is in a set or a start.
+-- Goals over n states are lawful if there are 1 to 8 sets of each kind, and if nothing outside the game
+-- is in a set or is a start.
 pub record LawfulGoals (n : ℕ) (g : GameGoals) : Type 0 where
   pub some-assumption : 1 ≤ g .assumptions
   pub few-assumptions : g .assumptions ≤ 8

@@ -1,9 +1,9 @@
-//! What a game is, and the two traits through which code asks one.
+//! What a game is, and the traits through which code asks one.
 //!
-//! `specs/` defines games, plays, strategies and winners. An arena is a value that means one game: `Moves` tells its moves,
-//! and `Arena` adds the sets of states and the starts.
+//! `specs/` defines games, plays, strategies and winners. An arena is a value that means one game. What it means is a ghost
+//! member of `HasMoves` and of `HasGoals`, with the law that it is lawful; `Moves` answers the questions about moves, and `Arena`
+//! those about the sets of states and the starts.
 
-ghost use denote.Ref.{now};
 ghost use mathlib.Core.Path.{_≡_};
 ghost use Rattle.arena.specs.Game.{GameMoves, GameGoals, LawfulMoves, LawfulGoals, starts};
 ghost use Rattle.arena.specs.Next.{target};
@@ -58,7 +58,7 @@ pub trait HasGoals: HasMoves {
     law lawful: { (a : Self) → LawfulGoals (Self·HasMoves .moves a .states) (goals a) };
 }
 
-/// An arena: the questions about moves, sets and starts. Nothing outside the game is in a set or a start.
+/// An arena: the questions about moves, sets and starts. Nothing outside the game is in a set or is a start.
 pub trait Arena: Moves + HasGoals {
     fn assumptions(&self) -> u16
         ensures { λ r. ⌜ r ≡ Self·HasGoals .goals (now (self .entry)) .assumptions ⌝ };

@@ -31,9 +31,6 @@ cond-same : {X : Type 0} (b : Bool) (x y z : X) → (b ≡ true → x ≡ y) →
 cond-same true x y z h = h refl
 cond-same false x y z h = refl
 
-and-same : (a b c : Bool) → b ≡ c → (a && b) ≡ (a && c)
-and-same a b c e = cc
-
 opened : (q x : ℕ) → table-moves worked-bytes .opened q x ≡ worked-game .moves .opened q x
 opened q x =
     and-last (ltb q 2) (ltb x 1) _

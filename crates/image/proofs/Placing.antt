@@ -22,7 +22,7 @@ section-inside k bs e i l =
     let fine = or-parts _ _ (passed (pair-bad k bs) (λ n. n) (pairs-of k) e i l) in ltb-false _ _ (fine .1)
 
 -- A cell of a section lies in the section.
-pub cell-inside : (e : Cell) (c s : ℕ) → c < s / width-of e → width-of e * c + width-of e ≤ s
+cell-inside : (e : Cell) (c s : ℕ) → c < s / width-of e → width-of e * c + width-of e ≤ s
 cell-inside Flag c s l = omega arith
 cell-inside Target c s l = omega arith
 

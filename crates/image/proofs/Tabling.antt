@@ -53,7 +53,6 @@ use Rattle.image.proofs.Placing.{section-inside}
 -- What the judging found of a table.
 pub record Sound (bs : List ℕ) : Type 0 where
   pub long : 32 ≤ length bs
-  pub short : length bs ≤ 65535
   pub numbers : bad-number Table bs ≡ None
   pub ordered : bad-pair Table bs ≡ None
   pub sizes : bad-size Table bs ≡ None
@@ -63,13 +62,13 @@ granted : (o : Option ℕ) (f : ℕ → Refusal) (later : Result Kind Refusal) (
 granted (Some n) f later k e = let z : _≡_ {A = ℕ} 0 1 = cc in absurd (omega arith)
 granted None f later k e = (refl, e)
 
-all-granted : (bs : List ℕ) → 32 ≤ length bs → length bs ≤ 65535 → judged-as (Some Table) bs ≡ Ok Table → Sound bs
-all-granted bs l m e =
+all-granted : (bs : List ℕ) → 32 ≤ length bs → judged-as (Some Table) bs ≡ Ok Table → Sound bs
+all-granted bs l e =
     let n = granted (bad-number Table bs) Header _ Table e in
     let p = granted (bad-pair Table bs) Pair _ Table (n .1) in
     let s = granted (bad-size Table bs) Section _ Table (p .1) in
     let v = granted (bad-value Table bs) Value _ Table (s .1) in
-    record { long = l; short = m; numbers = n .0; ordered = p .0; sizes = s .0; values = v .0 }
+    record { long = l; numbers = n .0; ordered = p .0; sizes = s .0; values = v .0 }
 
 judged-table : (bs : List ℕ) → is-table bs ≡ true → judged bs ≡ Ok Table
 unfolding is-table
@@ -87,7 +86,7 @@ sound bs e = by-length (right-length bs) refl (judged-table bs e)
     by-kind (Some Table) k h r =
         all-granted bs
         (leb-true _ _ (subst (λ (o : Option Kind). leb (least-length o) (length bs) ≡ true) k (and-parts _ _ r .0)))
-        (leb-true _ _ (and-parts _ _ r .1)) h
+        h
 
     by-length : (b : Bool) → right-length bs ≡ b → cond b (judged-as (kind-of bs) bs) (Err Length) ≡ Ok Table → Sound bs
     by-length true r h = by-kind (kind-of bs) refl h r
@@ -104,11 +103,11 @@ module _ (bs : List ℕ) (s : Sound bs) where
       in (omega (arith, eqb-false _ _ (fine .0)), ltb-false _ _ (fine .1))
 
   -- Each section has its length.
-  pub sized : (i : ℕ) → i < 5 → section-size bs i ≡ required-size Table bs i
+  sized : (i : ℕ) → i < 5 → section-size bs i ≡ required-size Table bs i
   sized i l = eqb-true _ _ (not-false _ (passed (size-bad Table bs) (λ k. k) 5 (s .sizes) i l))
 
   -- Each section lies in the image.
-  pub inside : (i : ℕ) → i < 5 → section-at bs i + section-size bs i ≤ length bs
+  inside : (i : ℕ) → i < 5 → section-at bs i + section-size bs i ≤ length bs
   inside = section-inside Table bs (s .ordered)
 
   -- Each next state is below the count of states, or 65535.
@@ -143,7 +142,7 @@ module _ (bs : List ℕ) (s : Sound bs) where
   target-inside q x y a b c = omega (arith, target-counted q x y a b c, inside 1 (omega arith))
 
   -- It names a state of the game, or none.
-  pub target-lawful :
+  target-lawful :
       (q x y p : ℕ) → q < states-of bs → x < inputs-of bs → y < replies-of bs →
       target-of (target-at bs q x y) ≡ Some p → p < states-of bs
   target-lawful q x y p a b c e = named _ (target-allowed _ (target-counted q x y a b c)) e

@@ -1,5 +1,5 @@
 ghost use mathlib.Core.Path.{_≡_};
-ghost use Prim.Native.Nat.{_+_, _<_, _≤_};
+ghost use Prim.Native.Nat.{_+_, _≤_};
 ghost use lib.ListN.{length, getD};
 ghost use Rattle.image.specs.Format.{kind-of, pairs-of, header-end, least-length, limits-of, table-sizes, required-size, cell-of, width-of, value-at, allowed};
 use crate::bytes::ASSUMPTION_SETS;
@@ -8,6 +8,17 @@ use crate::bytes::INPUTS;
 use crate::bytes::REPLIES;
 use crate::bytes::STATES;
 use crate::bytes::number;
+
+// The sections of a table, by their pairs.
+pub(crate) const OPEN_FLAGS: usize = 0;
+
+pub(crate) const NEXT_STATES: usize = 1;
+
+pub(crate) const ASSUMPTIONS: usize = 2;
+
+pub(crate) const GUARANTEES: usize = 3;
+
+pub(crate) const STARTS: usize = 4;
 
 /// The formats of an image.
 #[derive(Clone, Copy, PartialEq, Eq, Debug)]
@@ -79,7 +90,7 @@ impl Kind {
         ensures { λ r. ⌜ r ≡ cell-of self pair ⌝ }
     {
         match self {
-            Kind::Table if pair == 1 => Cell::Target,
+            Kind::Table if pair == NEXT_STATES => Cell::Target,
             Kind::Table => Cell::Flag,
         }
     }
@@ -94,11 +105,11 @@ fn table_size(bytes: &[u8], pair: usize) -> usize
     let inputs = usize::from(number(bytes, INPUTS));
     let replies = usize::from(number(bytes, REPLIES));
     match pair {
-        0 => states * inputs,
-        1 => states * inputs * replies * 2,
-        2 => usize::from(number(bytes, ASSUMPTION_SETS)) * states,
-        3 => usize::from(number(bytes, GUARANTEE_SETS)) * states,
-        4 => states,
+        OPEN_FLAGS => states * inputs,
+        NEXT_STATES => states * inputs * replies * 2,
+        ASSUMPTIONS => usize::from(number(bytes, ASSUMPTION_SETS)) * states,
+        GUARANTEES => usize::from(number(bytes, GUARANTEE_SETS)) * states,
+        STARTS => states,
         _ => 0,
     }
 }

@@ -14,53 +14,18 @@ use crate::bytes::STATES;
 use crate::bytes::Section;
 use crate::bytes::number;
 use crate::judgement::judge;
+use crate::kind::ASSUMPTIONS;
 use crate::kind::BARRED;
+use crate::kind::GUARANTEES;
 use crate::kind::Kind;
+use crate::kind::NEXT_STATES;
+use crate::kind::OPEN_FLAGS;
+use crate::kind::STARTS;
 use arena::Arena;
 use arena::HasGoals;
 use arena::HasMoves;
 use arena::Moves;
 use arena::Next;
-
-// The sections of a table.
-const OPEN: usize = 0;
-
-const TARGETS: usize = 1;
-
-const ASSUMPTIONS: usize = 2;
-
-const GUARANTEES: usize = 3;
-
-const STARTS: usize = 4;
-
-// The bytes of the built-in table: every count is 1; the pairs; and then closed, leads to 0, in no set, no start.
-fn built_in() -> &'static [u8]
-    ensures same { λ r. ⌜ now r ≡ built-in ⌝ }
-    ensures lawful { λ r. ⌜ is-table (now r) ≡ true ⌝ }
-{
-    b"\x01\0\x01\0\x01\0\x01\0\x01\0\x01\0\
-      \x20\0\x01\0\x21\0\x02\0\x23\0\x01\0\x24\0\x01\0\x25\0\x01\0\
-      \0\0\0\0\0\0"
-}
-
-// The cell at a row and a column.
-fn cell(row: usize, columns: u16, column: u16) -> usize
-    requires { ⌜ row < 2 ^ 32 ⌝ }
-    ensures value { λ r. ⌜ r ≡ row * columns + column ⌝ }
-    ensures small { λ r. ⌜ r < 2 ^ 48 ⌝ }
-{
-    row * usize::from(columns) + usize::from(column)
-}
-
-// Whether the bytes are judged to be a table.
-fn is_table(bytes: &[u8]) -> bool
-    ensures { λ r. ⌜ r ≡ is-table (now (bytes .entry)) ⌝ }
-{
-    match judge(bytes) {
-        Ok(Kind::Table) => true,
-        Err(_) => false,
-    }
-}
 
 /// A game that a table spells. Every question reads the caller's bytes.
 #[derive(Drop)]
@@ -70,7 +35,7 @@ pub struct Table<'a> {
 }
 
 impl<'a> Table<'a> {
-    /// Opens the bytes of a table. Other bytes open the built-in table.
+    /// Opens the bytes of a table. Other bytes open the built-in table: no caller is trusted to have judged them.
     pub fn open(bytes: &'a [u8]) -> Table<'a>
         ensures { λ r. ⌜ now (r .bytes) ≡ opened-bytes (now (bytes .entry)) ⌝ }
     {
@@ -97,7 +62,8 @@ impl<'a> Table<'a> {
         if row >= rows || column >= columns {
             return false;
         }
-        let at = Section::read(self.bytes, pair).offset + cell(usize::from(row), columns, column);
+        let at = Section::read(self.bytes, pair).offset
+            + cell_index(usize::from(row), columns, column);
         self.bytes[at] == 1
     }
 
@@ -108,9 +74,39 @@ impl<'a> Table<'a> {
         requires inside_replies { ⌜ reply < replies-of (now (now self .bytes)) ⌝ }
         ensures { λ r. ⌜ r ≡ target-at (now (now (self .entry) .bytes)) state input reply ⌝ }
     {
-        let row = cell(usize::from(state), self.inputs(), input);
-        let at = Section::read(self.bytes, TARGETS).offset + 2 * cell(row, self.replies(), reply);
+        let row = cell_index(usize::from(state), self.inputs(), input);
+        let at = Section::read(self.bytes, NEXT_STATES).offset
+            + 2 * cell_index(row, self.replies(), reply);
         number(self.bytes, at)
+    }
+}
+
+// The bytes of the built-in table: every count is 1; the pairs; and then closed, leads to 0, in no set, no start.
+fn built_in() -> &'static [u8]
+    ensures same { λ r. ⌜ now r ≡ built-in ⌝ }
+    ensures lawful { λ r. ⌜ is-table (now r) ≡ true ⌝ }
+{
+    b"\x01\0\x01\0\x01\0\x01\0\x01\0\x01\0\
+      \x20\0\x01\0\x21\0\x02\0\x23\0\x01\0\x24\0\x01\0\x25\0\x01\0\
+      \0\0\0\0\0\0"
+}
+
+// The number of the cell at a row and a column.
+fn cell_index(row: usize, columns: u16, column: u16) -> usize
+    requires { ⌜ row < 2 ^ 32 ⌝ }
+    ensures value { λ r. ⌜ r ≡ row * columns + column ⌝ }
+    ensures small { λ r. ⌜ r < 2 ^ 48 ⌝ }
+{
+    row * usize::from(columns) + usize::from(column)
+}
+
+// Whether the bytes are judged to be a table.
+fn is_table(bytes: &[u8]) -> bool
+    ensures { λ r. ⌜ r ≡ is-table (now (bytes .entry)) ⌝ }
+{
+    match judge(bytes) {
+        Ok(Kind::Table) => true,
+        Err(_) => false,
     }
 }
 
@@ -132,7 +128,7 @@ pub impl<'a> Moves for Table<'a> as TableMoves {
     }
 
     fn is_open(&self, state: u16, input: u16) -> bool {
-        self.flag(OPEN, state, self.states(), input, self.inputs())
+        self.flag(OPEN_FLAGS, state, self.states(), input, self.inputs())
     }
 
     fn leads(&self, state: u16, input: u16, reply: u16) -> Next {

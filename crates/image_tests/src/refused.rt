@@ -33,10 +33,12 @@ fn header_numbers_out_of_range_are_refused() -> Result<(), Fail> {
         (4, 0, 4),
         (4, 65, 4),
         (6, 0, 6),
+        (6, 65, 6),
         (7, 1, 6),
         (8, 0, 8),
         (8, 9, 8),
         (10, 0, 10),
+        (10, 9, 10),
         (11, 1, 10),
     ];
     for (at, byte, offset) in cases {
@@ -76,6 +78,15 @@ fn sections_of_another_length_are_refused() -> Result<(), Fail> {
         check_eq(judge(&changed(at, byte)), Err(Refusal::Section(pair)))?;
     }
     Ok(())
+}
+
+#[test]
+fn an_empty_section_may_stand_at_the_end_and_not_beyond() -> Result<(), Fail> {
+    let mut image = changed(0x1e, 0);
+    image[0x1c] = 48;
+    check_eq(judge(&image), Err(Refusal::Section(4)))?;
+    image[0x1c] = 49;
+    check_eq(judge(&image), Err(Refusal::Pair(4)))
 }
 
 #[test]

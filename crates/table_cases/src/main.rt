@@ -1,4 +1,5 @@
-//! Answers each image of `data/` that `cases.txt` names, and compares the text with what an independent solver printed.
+//! Answers each image of `data/` that `cases.txt` names, and compares the text with the one beside it, which was known beforehand
+//! or printed by an independent solver.
 
 use std::alloc::AllocError;
 use std::alloc::Global;

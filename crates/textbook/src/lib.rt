@@ -8,11 +8,11 @@
 ghost use mathlib.Core.Path.{_≡_};
 ghost use Rattle.std.specs.Of.Vec.{vec-len};
 ghost use Rattle.std.specs.Vec.{made};
+use crate::state_set::StateSet;
 use arena::Arena;
 use arena::Moves;
 use arena::Next;
 use arena::Player;
-use state_set::StateSet;
 use std::alloc::AllocError;
 use std::alloc::Global;
 
@@ -73,7 +73,7 @@ impl<'a, A: Arena> Fixpoint<'a, A> {
         let mut changed = false;
         for guarantee in 0..self.arena.guarantees() {
             self.find_y(guarantee);
-            changed = self.z.keep(&self.y) || changed;
+            changed |= self.z.intersect(&self.y);
         }
         changed
     }
@@ -93,7 +93,7 @@ impl<'a, A: Arena> Fixpoint<'a, A> {
         let mut changed = false;
         for assumption in 0..self.arena.assumptions() {
             self.find_x(guarantee, assumption);
-            changed = self.y.add(&self.x) || changed;
+            changed |= self.y.unite(&self.x);
         }
         changed
     }
@@ -120,6 +120,7 @@ impl<'a, A: Arena> Fixpoint<'a, A> {
         changed
     }
 
+    // Whether the state is in (G_j ∩ CPre Z) ∪ CPre Y ∪ (complement of A_i ∩ CPre X).
     fn stays(&self, guarantee: u16, assumption: u16, state: u16) -> bool {
         self.arena.in_guarantee(guarantee, state) && controls(self.arena, &self.z, state)
             || controls(self.arena, &self.y, state)

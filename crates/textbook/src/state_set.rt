@@ -32,7 +32,7 @@ impl StateSet {
     }
 
     // Removes what `other` lacks. Says whether a state left.
-    pub(crate) fn keep(&mut self, other: &StateSet) -> bool {
+    pub(crate) fn intersect(&mut self, other: &StateSet) -> bool {
         let mut changed = false;
         for (flag, kept) in self.flags.iter_mut().zip(other.flags.iter()) {
             if *flag && !*kept {
@@ -44,7 +44,7 @@ impl StateSet {
     }
 
     // Adds what `other` has. Says whether a state joined.
-    pub(crate) fn add(&mut self, other: &StateSet) -> bool {
+    pub(crate) fn unite(&mut self, other: &StateSet) -> bool {
         let mut changed = false;
         for (flag, added) in self.flags.iter_mut().zip(other.flags.iter()) {
             if !*flag && *added {

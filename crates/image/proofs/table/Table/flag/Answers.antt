@@ -11,7 +11,7 @@ read-requires c κs =
 pub index-self-at : need.index-self-at
 index-self-at c =
     let bs = c .args .self .now .bytes .now in
-    let place : c .cell .result ≡ c .args .row * c .args .columns + c .args .column = cc in
+    let place : c .cell-index .result ≡ c .args .row * c .args .columns + c .args .column = cc in
     omega (
       arith,
       place,

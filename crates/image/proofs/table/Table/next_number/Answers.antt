@@ -11,7 +11,7 @@ read-requires c κs = omega (arith, sound (c .args .self .now .bytes .now) (c .a
 pub number-requires : need.number-requires
 number-requires c κs =
     let bs = c .args .self .now .bytes .now in
-    let place : c .cell .result ≡ (c .args .state * inputs-of bs + c .args .input) * replies-of bs + c .args .reply = cc in
+    let place : c .cell-index .result ≡ (c .args .state * inputs-of bs + c .args .input) * replies-of bs + c .args .reply = cc in
     omega (
       arith,
       place,

@@ -1,6 +1,6 @@
 use native.Mathlib.Omega.{arith}
 use Rattle.std.proofs.shelf.Bits.{mul-le}
-use Rattle.image.proofs.table.cell.Needs as need
+use Rattle.image.proofs.table.cell_index.Needs as need
 
 pub returns : need.returns
 returns c =
