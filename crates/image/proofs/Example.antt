@@ -65,24 +65,21 @@ assumed i q =
     at-one (λ n. flag-at worked-bytes 2 (n * 2 + q) ≡ true)
     (at-two (λ n. flag-at worked-bytes 2 (0 * 2 + n) ≡ true) refl refl q (ltb-true _ _ b)) i (ltb-true _ _ a))
 
--- A test of two flags, of which the flag at n alone says yes.
-module _ (flag : ℕ → Bool) where
-  only-first : flag 0 ≡ true → flag 1 ≡ false → (q : ℕ) → (ltb q 2 && flag q) ≡ eqb q 0
-  only-first a b zero = a
-  only-first a b (suc zero) = b
-  only-first a b (suc (suc q)) = let l = le-ltb (suc (suc q)) 2 (omega arith) in let n = ne-eqb (suc (suc q)) 0 (λ e. omega arith) in cc
-
-  only-second : flag 0 ≡ false → flag 1 ≡ true → (q : ℕ) → (ltb q 2 && flag q) ≡ eqb q 1
-  only-second a b zero = a
-  only-second a b (suc zero) = b
-  only-second a b (suc (suc q)) = let l = le-ltb (suc (suc q)) 2 (omega arith) in let n = ne-eqb (suc (suc q)) 1 (λ e. omega arith) in cc
+-- Two flags, of which the one at n alone says yes.
+only : (flag : ℕ → Bool) (n : ℕ) → n < 2 → flag 0 ≡ eqb 0 n → flag 1 ≡ eqb 1 n → (q : ℕ) → (ltb q 2 && flag q) ≡ eqb q n
+only flag n l a b zero = a
+only flag n l a b (suc zero) = b
+only flag n l a b (suc (suc q)) =
+    let past = le-ltb (suc (suc q)) 2 (omega arith) in
+    let other = ne-eqb (suc (suc q)) n (λ e. omega arith) in
+    cc
 
 guaranteed : (j q : ℕ) → table-goals worked-bytes .guaranteed j q ≡ worked-game .goals .guaranteed j q
-guaranteed zero q = only-second (λ n. flag-at worked-bytes 3 (0 * 2 + n)) refl refl q
+guaranteed zero q = only (λ n. flag-at worked-bytes 3 (0 * 2 + n)) 1 (omega arith) refl refl q
 guaranteed (suc j) q = let l = le-ltb (suc j) 1 (omega arith) in cc
 
 start : (q : ℕ) → table-goals worked-bytes .start q ≡ worked-game .goals .start q
-start q = only-first (flag-at worked-bytes 4) refl refl q
+start q = only (flag-at worked-bytes 4) 0 (omega arith) refl refl q
 
 pub worked : Worked
 unfolding first

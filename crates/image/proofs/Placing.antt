@@ -7,19 +7,20 @@ use native.Mathlib.Omega.{arith}
 use lib.ListN.{length}
 use Rattle.std.specs.declared.option.Option.the-variants.{Some, None}
 use Rattle.std.proofs.shelf.Tests.{or-parts, ltb-false}
+use Rattle.image.specs.declared.judgement.PairTest.the-variants.{Place}
 use Rattle.image.specs.declared.kind.Kind.{Kind}
 use Rattle.image.specs.declared.kind.Cell.{Cell}
 use Rattle.image.specs.declared.kind.Cell.the-variants.{Flag, Target}
 use Rattle.image.specs.Format.{pairs-of, section-at, section-size, width-of, cell-of}
-use Rattle.image.specs.Judging.{bad-pair, pair-bad, cell-offset, cell-bad, bad-cell}
+use Rattle.image.specs.Judging.{failing-pair, pair-fails, cell-offset, cell-bad, bad-cell}
 use Rattle.image.proofs.Searching.{passed, found, not-found}
 
 -- Where no pair is bad, each section lies in the image.
 pub section-inside :
-    (k : Kind) (bs : List ℕ) → bad-pair k bs ≡ None → (i : ℕ) → i < pairs-of k →
+    (k : Kind) (bs : List ℕ) → failing-pair Place k bs ≡ None → (i : ℕ) → i < pairs-of k →
     section-at bs i + section-size bs i ≤ length bs
 section-inside k bs e i l =
-    let fine = or-parts _ _ (passed (pair-bad k bs) (λ n. n) (pairs-of k) e i l) in ltb-false _ _ (fine .1)
+    let fine = or-parts _ _ (passed (pair-fails Place k bs) (λ n. n) (pairs-of k) e i l) in ltb-false _ _ (fine .1)
 
 -- A cell of a section lies in the section.
 cell-inside : (e : Cell) (c s : ℕ) → c < s / width-of e → width-of e * c + width-of e ≤ s
@@ -33,7 +34,7 @@ module _ (k : Kind) (bs : List ℕ) (i o s w : ℕ)
   counted c l = subst₂ (λ (a b : ℕ). c < a / b) sized wide l
 
   pub cell-lies :
-      bad-pair k bs ≡ None → i < pairs-of k → (c : ℕ) → c < s / w →
+      failing-pair Place k bs ≡ None → i < pairs-of k → (c : ℕ) → c < s / w →
       cell-offset k bs i c + width-of (cell-of k i) ≤ length bs
   cell-lies ordered l c m =
       omega (arith, section-inside k bs ordered i l, cell-inside (cell-of k i) c (section-size bs i) (counted c m))

@@ -14,6 +14,7 @@ use Rattle.std.specs.declared.result.Result.the-variants.{Ok, Err}
 use Rattle.std.proofs.shelf.Tests.{and-parts, or-parts, or-cases, not-false, false≢true, ltb-true, ltb-false, leb-true, eqb-true, eqb-false}
 use Rattle.std.proofs.shelf.Bits.{mul-add-lt}
 use Rattle.arena.specs.Game.{LawfulMoves, LawfulGoals}
+use Rattle.image.specs.declared.judgement.PairTest.the-variants.{Place, Size}
 use Rattle.image.specs.declared.kind.Kind.{Kind}
 use Rattle.image.specs.declared.kind.Kind.the-variants.{Table}
 use Rattle.image.specs.declared.refusal.Refusal.{Refusal}
@@ -38,9 +39,8 @@ use Rattle.image.specs.Judging.{
   number-bad,
   number-offset,
   bad-number,
-  bad-pair,
-  size-bad,
-  bad-size,
+  pair-fails,
+  failing-pair,
   cell-bad,
   cell-offset,
   bad-cell,
@@ -54,8 +54,8 @@ use Rattle.image.proofs.Placing.{section-inside}
 pub record Sound (bs : List ℕ) : Type 0 where
   pub long : 32 ≤ length bs
   pub numbers : bad-number Table bs ≡ None
-  pub ordered : bad-pair Table bs ≡ None
-  pub sizes : bad-size Table bs ≡ None
+  pub ordered : failing-pair Place Table bs ≡ None
+  pub sizes : failing-pair Size Table bs ≡ None
   pub values : bad-value Table bs ≡ None
 
 granted : (o : Option ℕ) (f : ℕ → Refusal) (later : Result Kind Refusal) (k : Kind) → refused-at o f later ≡ Ok k → (o ≡ None) × (later ≡ Ok k)
@@ -65,8 +65,8 @@ granted None f later k e = (refl, e)
 all-granted : (bs : List ℕ) → 32 ≤ length bs → judged-as (Some Table) bs ≡ Ok Table → Sound bs
 all-granted bs l e =
     let n = granted (bad-number Table bs) Header _ Table e in
-    let p = granted (bad-pair Table bs) Pair _ Table (n .1) in
-    let s = granted (bad-size Table bs) Section _ Table (p .1) in
+    let p = granted (failing-pair Place Table bs) Pair _ Table (n .1) in
+    let s = granted (failing-pair Size Table bs) Section _ Table (p .1) in
     let v = granted (bad-value Table bs) Value _ Table (s .1) in
     record { long = l; numbers = n .0; ordered = p .0; sizes = s .0; values = v .0 }
 
@@ -92,6 +92,10 @@ sound bs e = by-length (right-length bs) refl (judged-table bs e)
     by-length true r h = by-kind (kind-of bs) refl h r
     by-length false r h = let z : _≡_ {A = ℕ} 0 1 = cc in absurd (omega arith)
 
+-- What two tests and a flag say of the two numbers tested.
+both-inside : (a b c d : ℕ) (f : Bool) → (ltb a b && (ltb c d && f)) ≡ true → (a < b) × (c < d)
+both-inside a b c d f e = let t = and-parts _ _ e in (ltb-true _ _ (t .0), ltb-true _ _ (and-parts _ _ (t .1) .0))
+
 module _ (bs : List ℕ) (s : Sound bs) where
   -- Each header number lies in 1 to its limit.
   in-range :
@@ -104,7 +108,7 @@ module _ (bs : List ℕ) (s : Sound bs) where
 
   -- Each section has its length.
   sized : (i : ℕ) → i < 5 → section-size bs i ≡ required-size Table bs i
-  sized i l = eqb-true _ _ (not-false _ (passed (size-bad Table bs) (λ k. k) 5 (s .sizes) i l))
+  sized i l = eqb-true _ _ (not-false _ (passed (pair-fails Size Table bs) (λ k. k) 5 (s .sizes) i l))
 
   -- Each section lies in the image.
   inside : (i : ℕ) → i < 5 → section-at bs i + section-size bs i ≤ length bs
@@ -173,11 +177,6 @@ module _ (bs : List ℕ) (s : Sound bs) where
           let c = ltb-true _ _ (and-parts _ _ (t .1) .1) in
           ((a, b, c), target-lawful q x y p a b c u)
       go false f u = let z : _≡_ {A = ℕ} 0 1 = cc in absurd (omega arith)
-
-  -- What two tests and a flag say of the two numbers tested.
-  both-inside : (a b c d : ℕ) (f : Bool) → (ltb a b && (ltb c d && f)) ≡ true → (a < b) × (c < d)
-  both-inside a b c d f e =
-      let t = and-parts _ _ e in (ltb-true _ _ (t .0), ltb-true _ _ (and-parts _ _ (t .1) .0))
 
   pub lawful-moves : LawfulMoves (table-moves bs)
   lawful-moves = record {

@@ -9,6 +9,8 @@ use Rattle.std.specs.declared.option.Option.{Option}
 use Rattle.std.specs.declared.option.Option.the-variants.{Some, None}
 use Rattle.std.specs.declared.result.Result.{Result}
 use Rattle.std.specs.declared.result.Result.the-variants.{Ok, Err}
+use Rattle.image.specs.declared.judgement.PairTest.{PairTest}
+use Rattle.image.specs.declared.judgement.PairTest.the-variants.{Place, Size}
 use Rattle.image.specs.declared.kind.Kind.{Kind}
 use Rattle.image.specs.declared.refusal.Refusal.{Refusal}
 use Rattle.image.specs.declared.refusal.Refusal.the-variants.{Length, Header, Pair, Section, Value}
@@ -50,21 +52,15 @@ bad-number k bs = first 5 (λ h. value-if (number-bad k bs h) (number-offset h))
 abbrev pub earliest-start : Kind → List ℕ → ℕ → ℕ
 earliest-start k bs i = cond (eqb i 0) (header-end k) (section-at bs (i - 1) + section-size bs (i - 1))
 
--- Section i begins too early or ends past the image.
-abbrev pub pair-bad : Kind → List ℕ → ℕ → Bool
-pair-bad k bs i = ltb (section-at bs i) (earliest-start k bs i) || ltb (length bs) (section-at bs i + section-size bs i)
+-- What is asked of the pair of section i, and fails: in the test of its place, the section begins too early or ends past the
+-- image; in the test of its length, it has another than it must.
+abbrev pub pair-fails : PairTest → Kind → List ℕ → ℕ → Bool
+pair-fails Place k bs i = ltb (section-at bs i) (earliest-start k bs i) || ltb (length bs) (section-at bs i + section-size bs i)
+pair-fails Size k bs i = not (eqb (section-size bs i) (required-size k bs i))
 
--- The first pair out of order or past the image.
-abbrev pub bad-pair : Kind → List ℕ → Option ℕ
-bad-pair k bs = lowest (pairs-of k) (pair-bad k bs)
-
--- Section i has another length than it must.
-abbrev pub size-bad : Kind → List ℕ → ℕ → Bool
-size-bad k bs i = not (eqb (section-size bs i) (required-size k bs i))
-
--- The first pair whose section has a wrong length.
-abbrev pub bad-size : Kind → List ℕ → Option ℕ
-bad-size k bs = lowest (pairs-of k) (size-bad k bs)
+-- The first pair that fails a test.
+abbrev pub failing-pair : PairTest → Kind → List ℕ → Option ℕ
+failing-pair test k bs = lowest (pairs-of k) (pair-fails test k bs)
 
 -- Where cell c of section i stands.
 abbrev pub cell-offset : Kind → List ℕ → ℕ → ℕ → ℕ
@@ -91,7 +87,7 @@ refused-at None refusal later = later
 abbrev pub judged-as : Option Kind → List ℕ → Result Kind Refusal
 judged-as None bs = Err (Header 0)
 judged-as (Some k) bs =
-    refused-at (bad-number k bs) Header (refused-at (bad-pair k bs) Pair (refused-at (bad-size k bs) Section
+    refused-at (bad-number k bs) Header (refused-at (failing-pair Place k bs) Pair (refused-at (failing-pair Size k bs) Section
     (refused-at (bad-value k bs) Value (Ok k))))
 
 -- What is said of any byte string: its kind if it is an image, and else why it is refused.

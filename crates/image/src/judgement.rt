@@ -3,7 +3,7 @@ ghost use Prim.Native.Nat.{_+_, _<_, _≤_};
 ghost use lib.ListN.{length};
 ghost use Rattle.std.specs.declared.option.Option.the-variants.{None};
 ghost use Rattle.image.specs.Format.{header-end, pairs-of, cell-of, width-of};
-ghost use Rattle.image.specs.Judging.{judged, number-bad, bad-number, earliest-start, pair-bad, bad-pair, size-bad, bad-size, cell-offset, cell-bad, bad-cell, bad-value};
+ghost use Rattle.image.specs.Judging.{judged, number-bad, bad-number, earliest-start, pair-fails, failing-pair, cell-offset, cell-bad, bad-cell, bad-value};
 use crate::bytes::Section;
 use crate::bytes::number;
 use crate::kind::Kind;
@@ -49,45 +49,36 @@ fn earliest(kind: Kind, bytes: &[u8], pair: usize) -> usize
     before.offset + before.size
 }
 
-// Whether the section of a pair begins too early or ends past the image.
-fn pair_is_bad(kind: Kind, bytes: &[u8], pair: usize) -> bool
+// What is asked of a pair: whether its section lies where it may, or whether it has the length that it must.
+#[derive(Clone, Copy)]
+pub(crate) enum PairTest {
+    Place,
+    Size,
+}
+
+// Whether a pair fails a test.
+fn pair_fails(test: PairTest, kind: Kind, bytes: &[u8], pair: usize) -> bool
     requires inside { ⌜ pair < pairs-of kind ⌝ }
     requires long { ⌜ header-end kind ≤ length (now bytes) ⌝ }
-    ensures { λ r. ⌜ r ≡ pair-bad kind (now (bytes .entry)) pair ⌝ }
+    ensures { λ r. ⌜ r ≡ pair-fails test kind (now (bytes .entry)) pair ⌝ }
 {
     let section = Section::read(bytes, pair);
-    section.offset < earliest(kind, bytes, pair) || section.offset + section.size > bytes.len()
-}
-
-// The first pair out of order or past the image.
-fn bad_pair(kind: Kind, bytes: &[u8]) -> Option<usize>
-    requires { ⌜ header-end kind ≤ length (now bytes) ⌝ }
-    ensures { λ r. ⌜ r ≡ bad-pair kind (now (bytes .entry)) ⌝ }
-{
-    for pair in 0..kind.pairs() {
-        if pair_is_bad(kind, bytes, pair) {
-            return Some(pair);
+    match test {
+        PairTest::Place => {
+            section.offset < earliest(kind, bytes, pair)
+                || section.offset + section.size > bytes.len()
         }
+        PairTest::Size => section.size != kind.required_size(bytes, pair),
     }
-    None
 }
 
-// Whether the section of a pair has another length than it must.
-fn size_is_bad(kind: Kind, bytes: &[u8], pair: usize) -> bool
-    requires inside { ⌜ pair < pairs-of kind ⌝ }
-    requires long { ⌜ header-end kind ≤ length (now bytes) ⌝ }
-    ensures { λ r. ⌜ r ≡ size-bad kind (now (bytes .entry)) pair ⌝ }
-{
-    Section::read(bytes, pair).size != kind.required_size(bytes, pair)
-}
-
-// The first pair whose section has a wrong length.
-fn bad_size(kind: Kind, bytes: &[u8]) -> Option<usize>
+// The first pair that fails a test.
+fn failing_pair(test: PairTest, kind: Kind, bytes: &[u8]) -> Option<usize>
     requires { ⌜ header-end kind ≤ length (now bytes) ⌝ }
-    ensures { λ r. ⌜ r ≡ bad-size kind (now (bytes .entry)) ⌝ }
+    ensures { λ r. ⌜ r ≡ failing-pair test kind (now (bytes .entry)) ⌝ }
 {
     for pair in 0..kind.pairs() {
-        if size_is_bad(kind, bytes, pair) {
+        if pair_fails(test, kind, bytes, pair) {
             return Some(pair);
         }
     }
@@ -110,7 +101,7 @@ fn cell_is_bad(kind: Kind, bytes: &[u8], pair: usize, cell: usize) -> bool
 fn bad_cell(kind: Kind, bytes: &[u8], pair: usize) -> Option<usize>
     requires inside { ⌜ pair < pairs-of kind ⌝ }
     requires long { ⌜ header-end kind ≤ length (now bytes) ⌝ }
-    requires ordered { ⌜ bad-pair kind (now bytes) ≡ None ⌝ }
+    requires ordered { ⌜ failing-pair PairTest.Place kind (now bytes) ≡ None ⌝ }
     ensures { λ r. ⌜ r ≡ bad-cell kind (now (bytes .entry)) pair ⌝ }
 {
     let width = kind.cell(pair).width();
@@ -126,7 +117,7 @@ fn bad_cell(kind: Kind, bytes: &[u8], pair: usize) -> Option<usize>
 // The offset of the first value that is not allowed.
 fn bad_value(kind: Kind, bytes: &[u8]) -> Option<usize>
     requires long { ⌜ header-end kind ≤ length (now bytes) ⌝ }
-    requires ordered { ⌜ bad-pair kind (now bytes) ≡ None ⌝ }
+    requires ordered { ⌜ failing-pair PairTest.Place kind (now bytes) ≡ None ⌝ }
     ensures { λ r. ⌜ r ≡ bad-value kind (now (bytes .entry)) ⌝ }
 {
     for pair in 0..kind.pairs() {
@@ -152,10 +143,10 @@ pub fn judge(bytes: &[u8]) -> Result<Kind, Refusal>
     if let Some(offset) = bad_number(kind, bytes) {
         return Err(Refusal::Header(offset));
     }
-    if let Some(pair) = bad_pair(kind, bytes) {
+    if let Some(pair) = failing_pair(PairTest::Place, kind, bytes) {
         return Err(Refusal::Pair(pair));
     }
-    if let Some(pair) = bad_size(kind, bytes) {
+    if let Some(pair) = failing_pair(PairTest::Size, kind, bytes) {
         return Err(Refusal::Section(pair));
     }
     if let Some(offset) = bad_value(kind, bytes) {

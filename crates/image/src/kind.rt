@@ -20,6 +20,9 @@ pub(crate) const GUARANTEES: usize = 3;
 
 pub(crate) const STARTS: usize = 4;
 
+// The next state that means a barred reply.
+pub(crate) const BARRED: u16 = 65535;
+
 /// The formats of an image.
 #[derive(Clone, Copy, PartialEq, Eq, Debug)]
 pub enum Kind {
@@ -154,6 +157,3 @@ impl Cell {
         }
     }
 }
-
-// The next state that means a barred reply.
-pub(crate) const BARRED: u16 = 65535;

@@ -1,8 +1,11 @@
 ghost use mathlib.Core.Path.{_≡_};
 ghost use Rattle.std.specs.Orderings.{Decides};
+ghost use Rattle.std.specs.Results.{Cases};
 ghost use Rattle.std.specs.Vec.{made};
+ghost use Rattle.std.specs.declared.result.Result.the-variants.{Ok};
 ghost use lib.ListN.{getD};
 ghost use Rattle.arena.specs.declared.player.Player.the-variants.{Environment};
+ghost use Rattle.image.specs.Judging.{judged};
 ghost use Rattle.verdict.specs.Answers.{Answers, Complete, Starts-won, is-controller};
 use arena::Arena;
 use arena::Moves;
@@ -32,9 +35,10 @@ pub struct Verdicts {
     pub realizable: bool,
 }
 
-/// Answers the bytes of an image: why they are refused, or the verdicts of the game that they spell.
+/// Answers the bytes of an image: why they are refused, or the verdicts of the game that they spell. Memory can be wanting only
+/// for verdicts.
 pub fn answer_image(heap: Global, bytes: &[u8]) -> Result<Answer, AllocError>
-    ensures { λ r. ⌜ made r (Answers (now (bytes .entry))) ⌝ }
+    ensures { λ r. ⌜ Cases r (Answers (now (bytes .entry))) (λ _. judged (now (bytes .entry)) ≡ Ok Kind.Table) ⌝ }
 {
     match judge(bytes) {
         Ok(Kind::Table) => Ok(Answer::Solved(solve(heap, &Table::open(bytes))?)),
