@@ -1,4 +1,3 @@
 pub mod Searching
 pub mod Placing
-pub mod Tabling
-pub mod Example
+pub mod Sounding

@@ -1,17 +1,15 @@
--- Where the sections of an image lie.
-use mathlib.Core.Path.{_≡_, subst₂, sym}
-use mathlib.Core.Bool.{true, false}
+-- Where the sections of an image lie, and what the walk over their cells finds.
+use mathlib.Core.Path.{_≡_, subst₂, sym, _∙_, ap₂}
+use mathlib.Core.Bool.{Bool, true, false, not}
 use mathlib.Core.List.{List}
 use Prim.Native.Nat.{ℕ, _+_, _*_, _/_, _<_, _≤_}
-use native.Mathlib.Omega.{arith}
 use lib.ListN.{length}
 use Rattle.std.specs.declared.option.Option.the-variants.{Some, None}
 use Rattle.std.proofs.shelf.Tests.{or-parts, ltb-false}
+use Rattle.image.specs.declared.cell.Cell.{Cell}
 use Rattle.image.specs.declared.judgement.PairTest.the-variants.{Place}
 use Rattle.image.specs.declared.kind.Kind.{Kind}
-use Rattle.image.specs.declared.kind.Cell.{Cell}
-use Rattle.image.specs.declared.kind.Cell.the-variants.{Flag, Target}
-use Rattle.image.specs.Format.{pairs-of, section-at, section-size, width-of, cell-of}
+use Rattle.image.specs.Format.{pairs-of, section-at, section-size, cell-of, width-of, value-at, allowed}
 use Rattle.image.specs.Judging.{failing-pair, pair-fails, cell-offset, cell-bad, bad-cell}
 use Rattle.image.proofs.Searching.{passed, found, not-found}
 
@@ -22,29 +20,21 @@ pub section-inside :
 section-inside k bs e i l =
     let fine = or-parts _ _ (passed (pair-fails Place k bs) (λ n. n) (pairs-of k) e i l) in ltb-false _ _ (fine .1)
 
--- A cell of a section lies in the section.
-cell-inside : (e : Cell) (c s : ℕ) → c < s / width-of e → width-of e * c + width-of e ≤ s
-cell-inside Flag c s l = omega arith
-cell-inside Target c s l = omega arith
-
 -- The walk over the cells of section i, which begins at o and has s bytes, w to a cell.
 module _ (k : Kind) (bs : List ℕ) (i o s w : ℕ)
-    (at : o ≡ section-at bs i) (sized : s ≡ section-size bs i) (wide : w ≡ width-of (cell-of k i)) where
-  counted : (c : ℕ) → c < s / w → c < section-size bs i / width-of (cell-of k i)
-  counted c l = subst₂ (λ (a b : ℕ). c < a / b) sized wide l
-
-  pub cell-lies :
-      failing-pair Place k bs ≡ None → i < pairs-of k → (c : ℕ) → c < s / w →
-      cell-offset k bs i c + width-of (cell-of k i) ≤ length bs
-  cell-lies ordered l c m =
-      omega (arith, section-inside k bs ordered i l, cell-inside (cell-of k i) c (section-size bs i) (counted c m))
+    (at : o ≡ section-at bs i) (sized : s ≡ section-size bs i) (wide : w ≡ width-of k i) where
+  pub cell-told :
+      (c : ℕ) (e : Cell) (b : Bool) → e ≡ cell-of k i c → b ≡ not (allowed e bs (value-at e bs (o + w * c))) → b ≡ cell-bad k bs i c
+  cell-told c e b same told =
+      told
+      ∙ ap₂ (λ (x : Cell) (y : ℕ). not (allowed x bs (value-at x bs y))) same (ap₂ (λ (x y : ℕ). x + y * c) at wide)
 
   pub bad-cell-found :
       (c : ℕ) → c < s / w → ((d : ℕ) → d < c → cell-bad k bs i d ≡ false) → cell-bad k bs i c ≡ true →
       Some (o + w * c) ≡ bad-cell k bs i
   bad-cell-found c m before here =
       subst₂ (λ (a b : ℕ). Some (a + b * c) ≡ bad-cell k bs i) (sym at) (sym wide)
-      (found (cell-bad k bs i) (cell-offset k bs i) _ c (counted c m) before here)
+      (found (cell-bad k bs i) (cell-offset k bs i) _ c (subst₂ (λ (a b : ℕ). c < a / b) sized wide m) before here)
 
   pub no-bad-cell : ((d : ℕ) → d < s / w → cell-bad k bs i d ≡ false) → None ≡ bad-cell k bs i
   no-bad-cell none =

@@ -22,10 +22,12 @@ use Rattle.image.specs.Format.{
   header-end,
   least-length,
   greatest-length,
+  leasts-of,
   limits-of,
+  too-many-bits,
   section-at,
   section-size,
-  required-size,
+  size-fits,
   cell-of,
   width-of,
   value-at,
@@ -40,9 +42,11 @@ right-length bs = leb (least-length (kind-of bs)) (length bs) && leb (length bs)
 abbrev pub number-offset : ℕ → ℕ
 number-offset h = 2 + 2 * h
 
--- Header number h lies outside 1 to its limit.
+-- Header number h is below its least value or above its greatest, or makes too many bits.
 abbrev pub number-bad : Kind → List ℕ → ℕ → Bool
-number-bad k bs h = eqb (number-at bs (number-offset h)) 0 || ltb (getD (limits-of k) h 0) (number-at bs (number-offset h))
+number-bad k bs h =
+    ltb (number-at bs (number-offset h)) (getD (leasts-of k) h 0)
+    || (ltb (getD (limits-of k) h 0) (number-at bs (number-offset h)) || too-many-bits k bs h)
 
 -- The offset of the first header number that is out of range.
 abbrev pub bad-number : Kind → List ℕ → Option ℕ
@@ -53,10 +57,10 @@ abbrev pub earliest-start : Kind → List ℕ → ℕ → ℕ
 earliest-start k bs i = cond (eqb i 0) (header-end k) (section-at bs (i - 1) + section-size bs (i - 1))
 
 -- What is asked of the pair of section i, and fails: in the test of its place, the section begins too early or ends past the
--- image; in the test of its length, it has another than it must.
+-- image; in the test of its length, it has one that it may not.
 abbrev pub pair-fails : PairTest → Kind → List ℕ → ℕ → Bool
 pair-fails Place k bs i = ltb (section-at bs i) (earliest-start k bs i) || ltb (length bs) (section-at bs i + section-size bs i)
-pair-fails Size k bs i = not (eqb (section-size bs i) (required-size k bs i))
+pair-fails Size k bs i = not (size-fits k bs i (section-size bs i))
 
 -- The first pair that fails a test.
 abbrev pub failing-pair : PairTest → Kind → List ℕ → Option ℕ
@@ -64,15 +68,15 @@ failing-pair test k bs = lowest (pairs-of k) (pair-fails test k bs)
 
 -- Where cell c of section i stands.
 abbrev pub cell-offset : Kind → List ℕ → ℕ → ℕ → ℕ
-cell-offset k bs i c = section-at bs i + width-of (cell-of k i) * c
+cell-offset k bs i c = section-at bs i + width-of k i * c
 
 -- Cell c of section i holds what it may not.
 abbrev pub cell-bad : Kind → List ℕ → ℕ → ℕ → Bool
-cell-bad k bs i c = not (allowed (cell-of k i) bs (value-at (cell-of k i) bs (cell-offset k bs i c)))
+cell-bad k bs i c = not (allowed (cell-of k i c) bs (value-at (cell-of k i c) bs (cell-offset k bs i c)))
 
 -- The offset of the first bad cell of section i.
 abbrev pub bad-cell : Kind → List ℕ → ℕ → Option ℕ
-bad-cell k bs i = first (section-size bs i / width-of (cell-of k i)) (λ c. value-if (cell-bad k bs i c) (cell-offset k bs i c))
+bad-cell k bs i = first (section-size bs i / width-of k i) (λ c. value-if (cell-bad k bs i c) (cell-offset k bs i c))
 
 -- The offset of the first value that is not allowed, sections in order.
 abbrev pub bad-value : Kind → List ℕ → Option ℕ

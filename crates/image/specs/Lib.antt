@@ -3,5 +3,4 @@ pub mod First
 pub mod Format
 pub mod Refusals
 pub mod Judging
-pub mod Tables
-pub mod Worked
+pub mod Opening

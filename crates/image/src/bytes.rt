@@ -1,46 +1,60 @@
 ghost use mathlib.Core.Path.{_≡_};
-ghost use Prim.Native.Nat.{_+_, _*_, _<_, _≤_};
-ghost use lib.ListN.{length};
-ghost use Rattle.image.specs.Bytes.{number-at};
+ghost use Prim.Native.Nat.{_<_};
+ghost use Rattle.image.specs.Bytes.{byte-at, number-at};
 ghost use Rattle.image.specs.Format.{section-at, section-size};
 
-// Where the header numbers after the kind stand.
-pub(crate) const STATES: usize = 2;
+// Where the sizes of a table stand in the header.
+pub const STATES: usize = 2;
 
-pub(crate) const INPUTS: usize = 4;
+pub const INPUTS: usize = 4;
 
-pub(crate) const REPLIES: usize = 6;
+pub const REPLIES: usize = 6;
 
-pub(crate) const ASSUMPTION_SETS: usize = 8;
+// Where the sizes of rules stand in the header.
+pub const INPUT_BITS: usize = 2;
 
-pub(crate) const GUARANTEE_SETS: usize = 10;
+pub const OUTPUT_BITS: usize = 4;
 
-// The number at an offset.
-pub(crate) fn number(bytes: &[u8], at: usize) -> u16
-    requires { ⌜ at + 1 < length (now bytes) ⌝ }
-    ensures { λ r. ⌜ r ≡ number-at (now (bytes .entry)) at ⌝ }
+// Where the counts of sets stand in the header of any kind.
+pub const ASSUMPTION_SETS: usize = 8;
+
+pub const GUARANTEE_SETS: usize = 10;
+
+// The byte at an offset. What lies past the end counts as 0.
+pub(crate) fn byte(bytes: &[u8], at: usize) -> u8
+    ensures { λ r. ⌜ r ≡ byte-at (now (bytes .entry)) at ⌝ }
 {
-    u16::from_le_bytes([bytes[at], bytes[at + 1]])
+    if at < bytes.len() { bytes[at] } else { 0 }
 }
 
-// A pair of the header: where its section begins, and how many bytes it has.
+/// The number at an offset: two bytes, low byte first. What lies past the end counts as 0.
+pub fn number(bytes: &[u8], at: usize) -> u16
+    ensures { λ r. ⌜ r ≡ number-at (now (bytes .entry)) at ⌝ }
+{
+    if at >= bytes.len() {
+        return 0;
+    }
+    u16::from_le_bytes([bytes[at], byte(bytes, at + 1)])
+}
+
+/// A pair of the header: where its section begins, and how many bytes it has.
 #[derive(Clone, Copy)]
-pub(crate) struct Section {
-    pub(crate) offset: usize,
-    pub(crate) size: usize,
+pub struct Section {
+    pub offset: usize,
+    pub size: usize,
 }
 
 impl Section {
-    // The pair of this number.
-    pub(crate) fn read(bytes: &[u8], pair: usize) -> Section
-        requires { ⌜ 16 + 4 * pair ≤ length (now bytes) ⌝ }
+    /// The pair of this number.
+    pub fn read(bytes: &[u8], pair: u8) -> Section
         ensures begins { λ r. ⌜ r .offset ≡ section-at (now (bytes .entry)) pair ⌝ }
         ensures sized { λ r. ⌜ r .size ≡ section-size (now (bytes .entry)) pair ⌝ }
         ensures small { λ r. ⌜ (r .offset < 65536) × (r .size < 65536) ⌝ }
     {
+        let at = 12 + 4 * usize::from(pair);
         Section {
-            offset: usize::from(number(bytes, 12 + 4 * pair)),
-            size: usize::from(number(bytes, 14 + 4 * pair)),
+            offset: usize::from(number(bytes, at)),
+            size: usize::from(number(bytes, at + 2)),
         }
     }
 }

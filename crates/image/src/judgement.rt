@@ -1,9 +1,6 @@
 ghost use mathlib.Core.Path.{_≡_};
-ghost use Prim.Native.Nat.{_+_, _<_, _≤_};
-ghost use lib.ListN.{length};
-ghost use Rattle.std.specs.declared.option.Option.the-variants.{None};
-ghost use Rattle.image.specs.Format.{header-end, pairs-of, cell-of, width-of};
-ghost use Rattle.image.specs.Judging.{judged, number-bad, bad-number, earliest-start, pair-fails, failing-pair, cell-offset, cell-bad, bad-cell, bad-value};
+ghost use Prim.Native.Nat.{_<_};
+ghost use Rattle.image.specs.Judging.{judged, number-bad, bad-number, earliest-start, pair-fails, failing-pair, bad-cell, bad-value};
 use crate::bytes::Section;
 use crate::bytes::number;
 use crate::kind::Kind;
@@ -14,18 +11,17 @@ pub const GREATEST_LENGTH: usize = 65535;
 
 // Whether header number `h` after the kind is out of range.
 fn number_is_bad(kind: Kind, bytes: &[u8], h: usize) -> bool
-    requires inside { ⌜ h < 5 ⌝ }
-    requires long { ⌜ header-end kind ≤ length (now bytes) ⌝ }
+    requires { ⌜ h < 5 ⌝ }
     ensures { λ r. ⌜ r ≡ number-bad kind (now (bytes .entry)) h ⌝ }
 {
     let n = number(bytes, 2 + 2 * h);
+    let leasts = kind.leasts();
     let limits = kind.limits();
-    n == 0 || n > limits[h]
+    n < leasts[h] || n > limits[h] || kind.too_many_bits(bytes, h)
 }
 
 // The offset of the first header number that is out of range.
 fn bad_number(kind: Kind, bytes: &[u8]) -> Option<usize>
-    requires { ⌜ header-end kind ≤ length (now bytes) ⌝ }
     ensures { λ r. ⌜ r ≡ bad-number kind (now (bytes .entry)) ⌝ }
 {
     for h in 0..5 {
@@ -37,9 +33,7 @@ fn bad_number(kind: Kind, bytes: &[u8]) -> Option<usize>
 }
 
 // Where the section of a pair may begin at the earliest.
-fn earliest(kind: Kind, bytes: &[u8], pair: usize) -> usize
-    requires inside { ⌜ pair < pairs-of kind ⌝ }
-    requires long { ⌜ header-end kind ≤ length (now bytes) ⌝ }
+fn earliest(kind: Kind, bytes: &[u8], pair: u8) -> usize
     ensures { λ r. ⌜ r ≡ earliest-start kind (now (bytes .entry)) pair ⌝ }
 {
     if pair == 0 {
@@ -57,9 +51,7 @@ pub(crate) enum PairTest {
 }
 
 // Whether a pair fails a test.
-fn pair_fails(test: PairTest, kind: Kind, bytes: &[u8], pair: usize) -> bool
-    requires inside { ⌜ pair < pairs-of kind ⌝ }
-    requires long { ⌜ header-end kind ≤ length (now bytes) ⌝ }
+fn pair_fails(test: PairTest, kind: Kind, bytes: &[u8], pair: u8) -> bool
     ensures { λ r. ⌜ r ≡ pair-fails test kind (now (bytes .entry)) pair ⌝ }
 {
     let section = Section::read(bytes, pair);
@@ -68,47 +60,32 @@ fn pair_fails(test: PairTest, kind: Kind, bytes: &[u8], pair: usize) -> bool
             section.offset < earliest(kind, bytes, pair)
                 || section.offset + section.size > bytes.len()
         }
-        PairTest::Size => section.size != kind.required_size(bytes, pair),
+        PairTest::Size => !kind.size_fits(bytes, pair, section.size),
     }
 }
 
 // The first pair that fails a test.
 fn failing_pair(test: PairTest, kind: Kind, bytes: &[u8]) -> Option<usize>
-    requires { ⌜ header-end kind ≤ length (now bytes) ⌝ }
     ensures { λ r. ⌜ r ≡ failing-pair test kind (now (bytes .entry)) ⌝ }
 {
     for pair in 0..kind.pairs() {
         if pair_fails(test, kind, bytes, pair) {
-            return Some(pair);
+            return Some(usize::from(pair));
         }
     }
     None
 }
 
-// Whether a cell of a section, which lies in the image, holds what it may not.
-fn cell_is_bad(kind: Kind, bytes: &[u8], pair: usize, cell: usize) -> bool
-    requires inside { ⌜ pair < pairs-of kind ⌝ }
-    requires long { ⌜ header-end kind ≤ length (now bytes) ⌝ }
-    requires lies { ⌜ cell-offset kind (now bytes) pair cell + width-of (cell-of kind pair) ≤ length (now bytes) ⌝ }
-    ensures { λ r. ⌜ r ≡ cell-bad kind (now (bytes .entry)) pair cell ⌝ }
-{
-    let holds = kind.cell(pair);
-    let at = Section::read(bytes, pair).offset + holds.width() * cell;
-    !holds.allows(bytes, holds.value(bytes, at))
-}
-
 // The offset of the first bad cell of a section.
-fn bad_cell(kind: Kind, bytes: &[u8], pair: usize) -> Option<usize>
-    requires inside { ⌜ pair < pairs-of kind ⌝ }
-    requires long { ⌜ header-end kind ≤ length (now bytes) ⌝ }
-    requires ordered { ⌜ failing-pair PairTest.Place kind (now bytes) ≡ None ⌝ }
+fn bad_cell(kind: Kind, bytes: &[u8], pair: u8) -> Option<usize>
     ensures { λ r. ⌜ r ≡ bad-cell kind (now (bytes .entry)) pair ⌝ }
 {
-    let width = kind.cell(pair).width();
+    let width = kind.width(pair);
     let section = Section::read(bytes, pair);
     for cell in 0..section.size / width {
-        if cell_is_bad(kind, bytes, pair, cell) {
-            return Some(section.offset + width * cell);
+        let at = section.offset + width * cell;
+        if kind.cell(pair, cell).is_bad(bytes, at) {
+            return Some(at);
         }
     }
     None
@@ -116,8 +93,6 @@ fn bad_cell(kind: Kind, bytes: &[u8], pair: usize) -> Option<usize>
 
 // The offset of the first value that is not allowed.
 fn bad_value(kind: Kind, bytes: &[u8]) -> Option<usize>
-    requires long { ⌜ header-end kind ≤ length (now bytes) ⌝ }
-    requires ordered { ⌜ failing-pair PairTest.Place kind (now bytes) ≡ None ⌝ }
     ensures { λ r. ⌜ r ≡ bad-value kind (now (bytes .entry)) ⌝ }
 {
     for pair in 0..kind.pairs() {

@@ -1,33 +1,51 @@
 ghost use mathlib.Core.Path.{_≡_};
-ghost use Prim.Native.Nat.{_+_, _≤_};
-ghost use lib.ListN.{length, getD};
-ghost use Rattle.image.specs.Format.{kind-of, pairs-of, header-end, least-length, limits-of, table-sizes, required-size, cell-of, width-of, value-at, allowed};
+ghost use lib.ListN.{getD};
+ghost use Rattle.image.specs.Format.{kind-of, pairs-of, header-end, least-length, leasts-of, limits-of, too-many-bits, table-sizes, row-width-of, size-fits, cell-of, field-of, width-of, state-bits-of};
 use crate::bytes::ASSUMPTION_SETS;
 use crate::bytes::GUARANTEE_SETS;
+use crate::bytes::INPUT_BITS;
 use crate::bytes::INPUTS;
+use crate::bytes::OUTPUT_BITS;
 use crate::bytes::REPLIES;
 use crate::bytes::STATES;
 use crate::bytes::number;
+use crate::cell::Cell;
 
 // The sections of a table, by their pairs.
-pub(crate) const OPEN_FLAGS: usize = 0;
+pub const OPEN_FLAGS: u8 = 0;
 
-pub(crate) const NEXT_STATES: usize = 1;
+pub const NEXT_STATES: u8 = 1;
 
-pub(crate) const ASSUMPTIONS: usize = 2;
+pub const ASSUMPTIONS: u8 = 2;
 
-pub(crate) const GUARANTEES: usize = 3;
+pub const GUARANTEES: u8 = 3;
 
-pub(crate) const STARTS: usize = 4;
+pub const STARTS: u8 = 4;
 
-// The next state that means a barred reply.
-pub(crate) const BARRED: u16 = 65535;
+// The sections of rules, by their pairs.
+pub const ENVIRONMENT_ROWS: u8 = 0;
+
+pub const CONTROLLER_ROWS: u8 = 1;
+
+pub const ASSUMPTION_ROWS: u8 = 2;
+
+pub const GUARANTEE_ROWS: u8 = 3;
+
+pub const START_ROWS: u8 = 4;
+
+/// The next state that means a barred reply.
+pub const BARRED: u16 = 65535;
+
+// The most bits that a state of rules has.
+const MOST_BITS: u32 = 10;
 
 /// The formats of an image.
 #[derive(Clone, Copy, PartialEq, Eq, Debug)]
 pub enum Kind {
     /// The game as a table: a flag or a number for each question.
     Table,
+    /// The game as rules over signals: rows of masks that must hold.
+    Rules,
 }
 
 impl Kind {
@@ -35,10 +53,10 @@ impl Kind {
     pub(crate) fn of(bytes: &[u8]) -> Option<Kind>
         ensures { λ r. ⌜ r ≡ kind-of (now (bytes .entry)) ⌝ }
     {
-        if bytes.len() >= 2 && number(bytes, 0) == 1 {
-            Some(Kind::Table)
-        } else {
-            None
+        match number(bytes, 0) {
+            1 => Some(Kind::Table),
+            2 => Some(Kind::Rules),
+            _ => None,
         }
     }
 
@@ -53,11 +71,11 @@ impl Kind {
     }
 
     // How many pairs of offset and length the header has.
-    pub(crate) fn pairs(self) -> usize
+    pub(crate) fn pairs(self) -> u8
         ensures { λ r. ⌜ r ≡ pairs-of self ⌝ }
     {
         match self {
-            Kind::Table => 5,
+            Kind::Table | Kind::Rules => 5,
         }
     }
 
@@ -65,7 +83,17 @@ impl Kind {
         ensures { λ r. ⌜ r ≡ header-end self ⌝ }
     {
         match self {
-            Kind::Table => 32,
+            Kind::Table | Kind::Rules => 32,
+        }
+    }
+
+    // The least values of the header numbers after the kind.
+    pub(crate) fn leasts(self) -> [u16; 5]
+        ensures { λ r. ⌜ r ≡ leasts-of self ⌝ }
+    {
+        match self {
+            Kind::Table => [1, 1, 1, 1, 1],
+            Kind::Rules => [1, 1, 0, 1, 1],
         }
     }
 
@@ -75,33 +103,55 @@ impl Kind {
     {
         match self {
             Kind::Table => [1024, 64, 64, 8, 8],
+            Kind::Rules => [6, 6, 0, 8, 8],
         }
     }
 
-    // How many bytes the section of a pair must have.
-    pub(crate) fn required_size(self, bytes: &[u8], pair: usize) -> usize
-        requires { ⌜ header-end self ≤ length (now bytes) ⌝ }
-        ensures { λ r. ⌜ r ≡ required-size self (now (bytes .entry)) pair ⌝ }
+    // Whether header number `h` makes too many bits together with those before it.
+    pub(crate) fn too_many_bits(self, bytes: &[u8], h: usize) -> bool
+        ensures { λ r. ⌜ r ≡ too-many-bits self (now (bytes .entry)) h ⌝ }
     {
         match self {
-            Kind::Table => table_size(bytes, pair),
+            Kind::Table => false,
+            Kind::Rules => h == 1 && state_bits(bytes) > MOST_BITS,
         }
     }
 
-    // What the cells of a section hold.
-    pub(crate) fn cell(self, pair: usize) -> Cell
-        ensures { λ r. ⌜ r ≡ cell-of self pair ⌝ }
+    // Whether the section of a pair may have so many bytes.
+    pub(crate) fn size_fits(self, bytes: &[u8], pair: u8, size: usize) -> bool
+        ensures { λ r. ⌜ r ≡ size-fits self (now (bytes .entry)) pair size ⌝ }
+    {
+        match self {
+            Kind::Table => size == table_size(bytes, pair),
+            Kind::Rules => size % row_width(pair) == 0,
+        }
+    }
+
+    // What a cell of a section holds.
+    pub(crate) fn cell(self, pair: u8, cell: usize) -> Cell
+        ensures { λ r. ⌜ r ≡ cell-of self pair cell ⌝ }
     {
         match self {
             Kind::Table if pair == NEXT_STATES => Cell::Target,
             Kind::Table => Cell::Flag,
+            Kind::Rules => field(pair, cell % (row_width(pair) / 2)),
+        }
+    }
+
+    // How many bytes a cell of a section has.
+    pub(crate) fn width(self, pair: u8) -> usize
+        ensures { λ r. ⌜ r ≡ width-of self pair ⌝ }
+    {
+        match self {
+            Kind::Table if pair == NEXT_STATES => 2,
+            Kind::Table => 1,
+            Kind::Rules => 2,
         }
     }
 }
 
 // How many bytes the section of a pair of a table must have.
-fn table_size(bytes: &[u8], pair: usize) -> usize
-    requires { ⌜ 32 ≤ length (now bytes) ⌝ }
+fn table_size(bytes: &[u8], pair: u8) -> usize
     ensures { λ r. ⌜ r ≡ getD (table-sizes (now (bytes .entry))) pair 0 ⌝ }
 {
     let states = usize::from(number(bytes, STATES));
@@ -117,43 +167,32 @@ fn table_size(bytes: &[u8], pair: usize) -> usize
     }
 }
 
-// What a cell holds: yes or no in a byte, or where a reply leads in a number.
-#[derive(Clone, Copy)]
-pub(crate) enum Cell {
-    Flag,
-    Target,
+/// How many bytes a row of a section of rules has.
+pub fn row_width(pair: u8) -> usize
+    ensures { λ r. ⌜ r ≡ row-width-of pair ⌝ }
+{
+    match pair {
+        ENVIRONMENT_ROWS | CONTROLLER_ROWS => 8,
+        ASSUMPTION_ROWS | GUARANTEE_ROWS => 6,
+        _ => 4,
+    }
 }
 
-impl Cell {
-    // How many bytes the cell has.
-    pub(crate) fn width(self) -> usize
-        ensures { λ r. ⌜ r ≡ width-of self ⌝ }
-    {
-        match self {
-            Cell::Flag => 1,
-            Cell::Target => 2,
-        }
+// What a field of a row of rules holds, by its place in the row.
+fn field(pair: u8, place: usize) -> Cell
+    ensures { λ r. ⌜ r ≡ field-of pair place ⌝ }
+{
+    match pair {
+        ENVIRONMENT_ROWS if place >= 2 => Cell::InputMask,
+        ASSUMPTION_ROWS if place == 0 => Cell::AssumptionSet,
+        GUARANTEE_ROWS if place == 0 => Cell::GuaranteeSet,
+        _ => Cell::Mask,
     }
+}
 
-    // What stands in the cell at an offset.
-    pub(crate) fn value(self, bytes: &[u8], at: usize) -> u16
-        requires { ⌜ at + width-of self ≤ length (now bytes) ⌝ }
-        ensures { λ r. ⌜ r ≡ value-at self (now (bytes .entry)) at ⌝ }
-    {
-        match self {
-            Cell::Flag => u16::from(bytes[at]),
-            Cell::Target => number(bytes, at),
-        }
-    }
-
-    // Whether the cell may hold the value.
-    pub(crate) fn allows(self, bytes: &[u8], value: u16) -> bool
-        requires { ⌜ 4 ≤ length (now bytes) ⌝ }
-        ensures { λ r. ⌜ r ≡ allowed self (now (bytes .entry)) value ⌝ }
-    {
-        match self {
-            Cell::Flag => value <= 1,
-            Cell::Target => value < number(bytes, STATES) || value == BARRED,
-        }
-    }
+// How many bits a state of rules has.
+pub(crate) fn state_bits(bytes: &[u8]) -> u32
+    ensures { λ r. ⌜ r ≡ state-bits-of (now (bytes .entry)) ⌝ }
+{
+    u32::from(number(bytes, INPUT_BITS)) + u32::from(number(bytes, OUTPUT_BITS))
 }

@@ -1,27 +1,25 @@
-use mathlib.Core.Path.{_∙_, sym, ap}
+use mathlib.Core.Path.{sym, _∙_}
 use native.Mathlib.Omega.{arith}
-use Rattle.image.specs.Format.{width-of}
-use Rattle.image.proofs.Placing.{cell-lies, bad-cell-found, no-bad-cell}
+use borrow.Author.Count.{below-more}
+use Rattle.image.proofs.Placing.{cell-told, bad-cell-found, no-bad-cell}
 use Rattle.image.proofs.judgement.bad_cell.Needs as need
 
-pub cell-is-bad-requires : need.cell-is-bad-requires
-cell-is-bad-requires c κs = record {
-  inside = c .pre .inside;
-  long = c .pre .long;
-  lies =
-      cell-lies (c .args .kind) (c .args .bytes .now) (c .args .pair) _ _ _ (c .read-section .ensures .begins)
-      (c .read-section .ensures .sized) (c .width-width .ensures ∙ ap width-of (c .cell .ensures)) (c .pre .ordered)
-      (c .pre .inside) (c .loop-cell .cell) (c .loop-cell-test .taken);
-}
-
-pub returns-then-cell-is-bad : need.returns-then-cell-is-bad
-returns-then-cell-is-bad c =
+pub returns-then-is-bad : need.returns-then-is-bad
+returns-then-is-bad c =
     bad-cell-found (c .args .kind) (c .args .bytes .now) (c .args .pair) _ _ _ (c .read-section .ensures .begins)
-    (c .read-section .ensures .sized) (c .width-width .ensures ∙ ap width-of (c .cell .ensures)) (c .loop-cell .cell)
-    (c .loop-cell-test .taken) (c .loop-cell .inv) (sym (c .if-cell-is-bad .ensures tt))
+    (c .read-section .ensures .sized) (c .width-width .ensures) (c .loop-cell .cell) (c .loop-cell-test .taken) (c .loop-cell .inv)
+    (sym
+    (cell-told (c .args .kind) (c .args .bytes .now) (c .args .pair) _ _ _ (c .read-section .ensures .begins)
+    (c .read-section .ensures .sized) (c .width-width .ensures) (c .loop-cell .cell) _ _ (c .cell .ensures) (c .if-is-bad .ensures tt)))
+
+pub loop-cell-again : need.loop-cell-again
+loop-cell-again c =
+    below-more _ _ (c .loop-cell .inv)
+    (sym
+    (cell-told (c .args .kind) (c .args .bytes .now) (c .args .pair) _ _ _ (c .read-section .ensures .begins)
+    (c .read-section .ensures .sized) (c .width-width .ensures) (c .loop-cell .cell) _ _ (c .cell .ensures) (c .if-is-bad .ensures tt)))
 
 pub returns : need.returns
 returns c =
     no-bad-cell (c .args .kind) (c .args .bytes .now) (c .args .pair) _ _ _ (c .read-section .ensures .begins)
-    (c .read-section .ensures .sized) (c .width-width .ensures ∙ ap width-of (c .cell .ensures))
-    (λ d l. c .loop-cell .inv d (omega arith))
+    (c .read-section .ensures .sized) (c .width-width .ensures) (λ d l. c .loop-cell .inv d (omega arith))

@@ -1,5 +1,0 @@
-use Rattle.image.proofs.Example.{worked}
-use Rattle.image.proofs.worked.the_worked_image_spells_its_game.Needs as need
-
-pub returns : need.returns
-returns c = worked

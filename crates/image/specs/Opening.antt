@@ -1,0 +1,43 @@
+-- The bytes that an arena of one kind is opened on. Assumes nothing.
+use mathlib.Core.Bool.{Bool, true, false, cond}
+use mathlib.Core.List.{List, [], _∷_}
+use Prim.Native.Nat.{ℕ}
+use Rattle.std.specs.declared.result.Result.{Result}
+use Rattle.std.specs.declared.result.Result.the-variants.{Ok, Err}
+use Rattle.image.specs.declared.kind.Kind.{Kind}
+use Rattle.image.specs.declared.kind.Kind.the-variants.{Table, Rules}
+use Rattle.image.specs.declared.refusal.Refusal.{Refusal}
+use Rattle.image.specs.Judging.{judged}
+
+-- The two kinds are the same.
+abbrev pub same-kind : Kind → Kind → Bool
+same-kind Table Table = true
+same-kind Table Rules = false
+same-kind Rules Table = false
+same-kind Rules Rules = true
+
+-- The judging says: an image of this kind.
+abbrev pub says-kind : Kind → Result Kind Refusal → Bool
+says-kind k (Ok j) = same-kind k j
+says-kind k (Err e) = false
+
+-- The bytes are judged to be an image of this kind.
+unfoldable pub is-image : Kind → List ℕ → Bool
+is-image k bs = says-kind k (judged bs)
+
+-- The built-in table has one state, one input, which is closed, and one reply, which leads to the state; both sets are empty, and
+-- there is no start. The built-in rules have one signal on each side and one set of each kind, and a row of the environment whose
+-- masks are all zero: it never holds, so that no input is open.
+abbrev pub built-in : Kind → List ℕ
+built-in Table =
+    1 ∷ 0 ∷ 1 ∷ 0 ∷ 1 ∷ 0 ∷ 1 ∷ 0 ∷ 1 ∷ 0 ∷ 1 ∷ 0 ∷
+    32 ∷ 0 ∷ 1 ∷ 0 ∷ 33 ∷ 0 ∷ 2 ∷ 0 ∷ 35 ∷ 0 ∷ 1 ∷ 0 ∷ 36 ∷ 0 ∷ 1 ∷ 0 ∷ 37 ∷ 0 ∷ 1 ∷ 0 ∷
+    0 ∷ 0 ∷ 0 ∷ 0 ∷ 0 ∷ 0 ∷ []
+built-in Rules =
+    2 ∷ 0 ∷ 1 ∷ 0 ∷ 1 ∷ 0 ∷ 0 ∷ 0 ∷ 1 ∷ 0 ∷ 1 ∷ 0 ∷
+    32 ∷ 0 ∷ 8 ∷ 0 ∷ 40 ∷ 0 ∷ 0 ∷ 0 ∷ 40 ∷ 0 ∷ 0 ∷ 0 ∷ 40 ∷ 0 ∷ 0 ∷ 0 ∷ 40 ∷ 0 ∷ 0 ∷ 0 ∷
+    0 ∷ 0 ∷ 0 ∷ 0 ∷ 0 ∷ 0 ∷ 0 ∷ 0 ∷ []
+
+-- What is opened: the bytes themselves, or the built-in image where they are no image of the kind.
+abbrev pub opened-bytes : Kind → List ℕ → List ℕ
+opened-bytes k bs = cond (is-image k bs) bs (built-in k)

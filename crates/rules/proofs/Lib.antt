@@ -1,0 +1,3 @@
+pub mod Masking
+pub mod Counting
+pub mod Ruling

@@ -1,0 +1,10 @@
+//! The game that rules over signals spell, as an arena.
+
+mod row;
+mod rules;
+
+pub use rules::Rules;
+pub use rules::RulesArena;
+pub use rules::RulesHasGoals;
+pub use rules::RulesHasMoves;
+pub use rules::RulesMoves;

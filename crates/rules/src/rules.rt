@@ -1,0 +1,140 @@
+ghost use denote.Ref.{now};
+ghost use mathlib.Core.Path.{_≡_};
+ghost use mathlib.Core.Bool.{true};
+ghost use Prim.Native.Nat.{_^_, _≤_};
+ghost use Rattle.image.specs.Bytes.{number-at};
+ghost use Rattle.image.specs.Opening.{opened-bytes};
+ghost use Rattle.rules.specs.Games.{is-rules, rules-moves, rules-goals};
+ghost use Rattle.rules.specs.Rows.{rows-hold};
+use crate::row::Question;
+use crate::row::Rows;
+use arena::Arena;
+use arena::HasGoals;
+use arena::HasMoves;
+use arena::Moves;
+use arena::Next;
+use image::ASSUMPTION_ROWS;
+use image::ASSUMPTION_SETS;
+use image::CONTROLLER_ROWS;
+use image::ENVIRONMENT_ROWS;
+use image::GUARANTEE_ROWS;
+use image::GUARANTEE_SETS;
+use image::INPUT_BITS;
+use image::Kind;
+use image::OUTPUT_BITS;
+use image::START_ROWS;
+use image::number;
+use image::or_built_in;
+
+/// A game that rules over signals spell. Every question reads the caller's bytes.
+#[derive(Drop)]
+pub struct Rules<'a> {
+    bytes: &'a [u8],
+    ghost lawful: { is-rules (now bytes) ≡ true },
+}
+
+impl<'a> Rules<'a> {
+    /// Opens the bytes of rules. Other bytes open the built-in rules: no caller is trusted to have judged them.
+    pub fn open(bytes: &'a [u8]) -> Rules<'a>
+        ensures { λ r. ⌜ now (r .bytes) ≡ opened-bytes Kind.Rules (now (bytes .entry)) ⌝ }
+    {
+        Rules {
+            bytes: or_built_in(Kind::Rules, bytes),
+        }
+    }
+
+    // The number of the header at this offset.
+    fn header(&self, at: usize) -> u16
+        ensures { λ r. ⌜ r ≡ number-at (now (now (self .entry) .bytes)) at ⌝ }
+    {
+        number(self.bytes, at)
+    }
+
+    // Whether every row of a section holds.
+    fn rows_hold(&self, pair: u8, asked: Question) -> bool
+        ensures { λ r. ⌜ r ≡ rows-hold (now (now (self .entry) .bytes)) pair asked ⌝ }
+    {
+        Rows::of(self.bytes, pair).hold(self.bytes, asked)
+    }
+}
+
+// How many choices there are of so many signals.
+fn two_to(bits: u16) -> u16
+    requires { ⌜ bits ≤ 10 ⌝ }
+    ensures { λ r. ⌜ r ≡ 2 ^ bits ⌝ }
+{
+    1 << bits
+}
+
+pub impl<'a> HasMoves for Rules<'a> as RulesHasMoves {
+    ghost moves = { λ t. rules-moves (now (t .bytes)) };
+}
+
+pub impl<'a> Moves for Rules<'a> as RulesMoves {
+    fn states(&self) -> u16 {
+        two_to(self.header(INPUT_BITS) + self.header(OUTPUT_BITS))
+    }
+
+    fn inputs(&self) -> u16 {
+        two_to(self.header(INPUT_BITS))
+    }
+
+    fn replies(&self) -> u16 {
+        two_to(self.header(OUTPUT_BITS))
+    }
+
+    fn is_open(&self, state: u16, input: u16) -> bool {
+        if state >= self.states() || input >= self.inputs() {
+            return false;
+        }
+        self.rows_hold(ENVIRONMENT_ROWS, Question::Step(state, input))
+    }
+
+    fn leads(&self, state: u16, input: u16, reply: u16) -> Next {
+        let inputs = self.inputs();
+        if state >= self.states() || input >= inputs || reply >= self.replies() {
+            return Next::Barred;
+        }
+        let next = input + inputs * reply;
+        if self.rows_hold(CONTROLLER_ROWS, Question::Step(state, next)) {
+            Next::To(next)
+        } else {
+            Next::Barred
+        }
+    }
+}
+
+pub impl<'a> HasGoals for Rules<'a> as RulesHasGoals {
+    ghost goals = { λ t. rules-goals (now (t .bytes)) };
+}
+
+pub impl<'a> Arena for Rules<'a> as RulesArena {
+    fn assumptions(&self) -> u16 {
+        self.header(ASSUMPTION_SETS)
+    }
+
+    fn guarantees(&self) -> u16 {
+        self.header(GUARANTEE_SETS)
+    }
+
+    fn in_assumption(&self, set: u16, state: u16) -> bool {
+        if set >= self.assumptions() || state >= self.states() {
+            return false;
+        }
+        self.rows_hold(ASSUMPTION_ROWS, Question::Member(set, state))
+    }
+
+    fn in_guarantee(&self, set: u16, state: u16) -> bool {
+        if set >= self.guarantees() || state >= self.states() {
+            return false;
+        }
+        self.rows_hold(GUARANTEE_ROWS, Question::Member(set, state))
+    }
+
+    fn is_start(&self, state: u16) -> bool {
+        if state >= self.states() {
+            return false;
+        }
+        self.rows_hold(START_ROWS, Question::Start(state))
+    }
+}

@@ -1,0 +1,5 @@
+use Rattle.table.proofs.Example.{worked}
+use Rattle.table.proofs.worked.the_worked_image_spells_its_game.Needs as need
+
+pub returns : need.returns
+returns c = worked
