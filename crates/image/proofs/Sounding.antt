@@ -1,5 +1,5 @@
 -- What the judging found of an image.
-use mathlib.Core.Path.{_≡_, refl, sym, _∙_, subst}
+use mathlib.Core.Path.{_≡_, refl, ap, _∙_, subst}
 use mathlib.Core.Bool.{Bool, true, false, cond, _||_}
 use mathlib.Core.List.{List}
 use Prim.Native.Nat.{ℕ, _+_, _/_, _<_, _≤_}
@@ -82,6 +82,14 @@ judged-kind k bs e = go k (judged bs) e
     go Rules (Ok Table) h = absurd (false≢true h)
     go Rules (Ok Rules) h = refl
     go k (Err x) h = absurd (false≢true h)
+
+pub kind-judged : (k : Kind) (bs : List ℕ) → judged bs ≡ Ok k → is-image k bs ≡ true
+unfolding is-image
+kind-judged k bs e = ap (says-kind k) e ∙ same k
+  where
+    same : (k : Kind) → same-kind k k ≡ true
+    same Table = refl
+    same Rules = refl
 
 pub sound : (k : Kind) (bs : List ℕ) → is-image k bs ≡ true → Sound k bs
 sound k bs e = by-length (right-length bs) (judged-kind k bs e)

@@ -1,4 +1,4 @@
--- The bytes that an arena of one kind is opened on. Assumes nothing.
+-- What bytes are opened as. Assumes nothing.
 use mathlib.Core.Bool.{Bool, true, false, cond}
 use mathlib.Core.List.{List, [], _∷_}
 use Prim.Native.Nat.{ℕ}
@@ -38,6 +38,24 @@ built-in Rules =
     32 ∷ 0 ∷ 8 ∷ 0 ∷ 40 ∷ 0 ∷ 0 ∷ 0 ∷ 40 ∷ 0 ∷ 0 ∷ 0 ∷ 40 ∷ 0 ∷ 0 ∷ 0 ∷ 40 ∷ 0 ∷ 0 ∷ 0 ∷
     0 ∷ 0 ∷ 0 ∷ 0 ∷ 0 ∷ 0 ∷ 0 ∷ 0 ∷ []
 
--- What is opened: the bytes themselves, or the built-in image where they are no image of the kind.
-abbrev pub opened-bytes : Kind → List ℕ → List ℕ
-opened-bytes k bs = cond (is-image k bs) bs (built-in k)
+-- The kind that is opened, given what the judging says.
+abbrev pub kind-opened : Result Kind Refusal → Kind
+kind-opened (Ok k) = k
+kind-opened (Err e) = Table
+
+-- The bytes that are opened, given what the judging says: the bytes themselves, or the built-in table where they are refused.
+abbrev pub bytes-opened : Result Kind Refusal → List ℕ → List ℕ
+bytes-opened (Ok k) bs = bs
+bytes-opened (Err e) bs = built-in Table
+
+-- The kind that any byte string is opened as.
+abbrev pub opened-kind : List ℕ → Kind
+opened-kind bs = kind-opened (judged bs)
+
+-- The bytes that any byte string is opened as.
+abbrev pub opened-bytes : List ℕ → List ℕ
+opened-bytes bs = bytes-opened (judged bs) bs
+
+-- The bytes of an image of kind j, taken as one of kind k: themselves if the kinds are the same, and else the built-in image.
+abbrev pub bytes-as : Kind → Kind → List ℕ → List ℕ
+bytes-as k j bs = cond (same-kind k j) bs (built-in k)

@@ -36,7 +36,7 @@ pub use kind::OPEN_FLAGS;
 pub use kind::START_ROWS;
 pub use kind::STARTS;
 pub use kind::row_width;
-pub use opening::or_built_in;
+pub use opening::Judged;
 pub use refusal::Refusal;
 pub use refusal::RefusalDebug;
 pub use refusal::RefusalPartialEq;

@@ -1,30 +1,51 @@
+ghost use denote.Ref.{now};
 ghost use mathlib.Core.Path.{_≡_};
 ghost use mathlib.Core.Bool.{true};
-ghost use Rattle.image.specs.Opening.{built-in, is-image, opened-bytes};
+ghost use Rattle.image.specs.Opening.{built-in, is-image, opened-kind, opened-bytes, bytes-as};
 use crate::judgement::judge;
 use crate::kind::Kind;
 use crate::kind::KindPartialEq;
 
-/// The bytes themselves if they are judged to be an image of the kind, and otherwise the built-in image of it: no caller is
-/// trusted to have judged them.
-pub fn or_built_in<'a>(kind: Kind, bytes: &'a [u8]) -> &'a [u8]
-    ensures same { λ r. ⌜ now r ≡ opened-bytes kind (now (bytes .entry)) ⌝ }
-    ensures lawful { λ r. ⌜ is-image kind (now r) ≡ true ⌝ }
-{
-    if is_image(kind, bytes) {
-        bytes
-    } else {
-        built_in(kind)
-    }
+/// Bytes that are judged to be an image, and its kind.
+#[derive(Clone, Copy)]
+pub struct Judged<'a> {
+    kind: Kind,
+    bytes: &'a [u8],
+    ghost lawful: { is-image kind (now bytes) ≡ true },
 }
 
-// Whether the bytes are judged to be an image of the kind.
-fn is_image(kind: Kind, bytes: &[u8]) -> bool
-    ensures { λ r. ⌜ r ≡ is-image kind (now (bytes .entry)) ⌝ }
-{
-    match judge(bytes) {
-        Ok(judged) => judged == kind,
-        Err(_) => false,
+impl<'a> Judged<'a> {
+    /// Opens the bytes of an image. Bytes that are refused open the built-in table: no caller is trusted to have judged them.
+    pub fn open(bytes: &'a [u8]) -> Judged<'a>
+        ensures kind { λ r. ⌜ r .kind ≡ opened-kind (now (bytes .entry)) ⌝ }
+        ensures bytes { λ r. ⌜ now (r .bytes) ≡ opened-bytes (now (bytes .entry)) ⌝ }
+    {
+        let Ok(kind) = judge(bytes) else {
+            return Judged {
+                kind: Kind::Table,
+                bytes: built_in(Kind::Table),
+            };
+        };
+        Judged { kind, bytes }
+    }
+
+    /// The kind of the image.
+    pub fn kind(self) -> Kind
+        ensures { λ r. ⌜ r ≡ self .entry .kind ⌝ }
+    {
+        self.kind
+    }
+
+    /// The bytes of the image if it is of this kind, and otherwise those of the built-in image of the kind.
+    pub fn bytes_as(self, kind: Kind) -> &'a [u8]
+        ensures same { λ r. ⌜ now r ≡ bytes-as kind (self .entry .kind) (now (self .entry .bytes)) ⌝ }
+        ensures lawful { λ r. ⌜ is-image kind (now r) ≡ true ⌝ }
+    {
+        if self.kind == kind {
+            self.bytes
+        } else {
+            built_in(kind)
+        }
     }
 }
 

@@ -57,8 +57,7 @@ impl Question {
     {
         match self {
             Question::Step(current, next) => {
-                Masks::read(bytes, at).hold_at(current)
-                    || Masks::read(bytes, at + 4).hold_at(next)
+                Masks::read(bytes, at).hold_at(current) || Masks::read(bytes, at + 4).hold_at(next)
             }
             Question::Member(set, state) => {
                 number(bytes, at) != set || Masks::read(bytes, at + 2).hold_at(state)

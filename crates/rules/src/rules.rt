@@ -3,7 +3,7 @@ ghost use mathlib.Core.Path.{_≡_};
 ghost use mathlib.Core.Bool.{true};
 ghost use Prim.Native.Nat.{_^_, _≤_};
 ghost use Rattle.image.specs.Bytes.{number-at};
-ghost use Rattle.image.specs.Opening.{opened-bytes};
+ghost use Rattle.image.specs.Opening.{bytes-as};
 ghost use Rattle.rules.specs.Games.{is-rules, rules-moves, rules-goals};
 ghost use Rattle.rules.specs.Rows.{rows-hold};
 use crate::row::Question;
@@ -20,11 +20,11 @@ use image::ENVIRONMENT_ROWS;
 use image::GUARANTEE_ROWS;
 use image::GUARANTEE_SETS;
 use image::INPUT_BITS;
+use image::Judged;
 use image::Kind;
 use image::OUTPUT_BITS;
 use image::START_ROWS;
 use image::number;
-use image::or_built_in;
 
 /// A game that rules over signals spell. Every question reads the caller's bytes.
 #[derive(Drop)]
@@ -34,12 +34,12 @@ pub struct Rules<'a> {
 }
 
 impl<'a> Rules<'a> {
-    /// Opens the bytes of rules. Other bytes open the built-in rules: no caller is trusted to have judged them.
-    pub fn open(bytes: &'a [u8]) -> Rules<'a>
-        ensures { λ r. ⌜ now (r .bytes) ≡ opened-bytes Kind.Rules (now (bytes .entry)) ⌝ }
+    /// The rules of an image, or the built-in rules where the image is of another kind.
+    pub fn of(image: Judged<'a>) -> Rules<'a>
+        ensures { λ r. ⌜ now (r .bytes) ≡ bytes-as Kind.Rules (image .entry .kind) (now (image .entry .bytes)) ⌝ }
     {
         Rules {
-            bytes: or_built_in(Kind::Rules, bytes),
+            bytes: image.bytes_as(Kind::Rules),
         }
     }
 

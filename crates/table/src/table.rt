@@ -6,19 +6,20 @@ ghost use lib.Dec.{ltb};
 ghost use lib.ListN.{getD};
 ghost use Rattle.image.specs.Bytes.{number-at};
 ghost use Rattle.image.specs.Format.{states-of, inputs-of, replies-of, table-sizes};
-ghost use Rattle.image.specs.Opening.{opened-bytes};
+ghost use Rattle.image.specs.Opening.{bytes-as};
 ghost use Rattle.table.specs.Tables.{is-table, table-moves, table-goals, flag-at, target-at};
 use arena::Arena;
 use arena::HasGoals;
 use arena::HasMoves;
 use arena::Moves;
 use arena::Next;
-use image::ASSUMPTIONS;
 use image::ASSUMPTION_SETS;
+use image::ASSUMPTIONS;
 use image::BARRED;
-use image::GUARANTEES;
 use image::GUARANTEE_SETS;
+use image::GUARANTEES;
 use image::INPUTS;
+use image::Judged;
 use image::Kind;
 use image::NEXT_STATES;
 use image::OPEN_FLAGS;
@@ -27,7 +28,6 @@ use image::STARTS;
 use image::STATES;
 use image::Section;
 use image::number;
-use image::or_built_in;
 
 /// A game that a table spells. Every question reads the caller's bytes.
 #[derive(Drop)]
@@ -37,12 +37,12 @@ pub struct Table<'a> {
 }
 
 impl<'a> Table<'a> {
-    /// Opens the bytes of a table. Other bytes open the built-in table: no caller is trusted to have judged them.
-    pub fn open(bytes: &'a [u8]) -> Table<'a>
-        ensures { λ r. ⌜ now (r .bytes) ≡ opened-bytes Kind.Table (now (bytes .entry)) ⌝ }
+    /// The table of an image, or the built-in table where the image is of another kind.
+    pub fn of(image: Judged<'a>) -> Table<'a>
+        ensures { λ r. ⌜ now (r .bytes) ≡ bytes-as Kind.Table (image .entry .kind) (now (image .entry .bytes)) ⌝ }
     {
         Table {
-            bytes: or_built_in(Kind::Table, bytes),
+            bytes: image.bytes_as(Kind::Table),
         }
     }
 

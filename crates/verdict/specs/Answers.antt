@@ -4,15 +4,15 @@ use mathlib.Core.Bool.{Bool, true, false}
 use mathlib.Core.List.{List}
 use Prim.Native.Nat.{ℕ}
 use lib.ListN.{getD}
-use Rattle.std.specs.declared.result.Result.the-variants.{Ok, Err}
+use Rattle.std.specs.declared.result.Result.the-variants.{Err}
+use Rattle.std.specs.Results.{isOk}
 use Rattle.std.specs.Of.Vec.{vec-items, vec-len}
 use Rattle.std.specs.Orderings.{Decides}
 use Rattle.arena.specs.declared.player.Player.{Player}
 use Rattle.arena.specs.declared.player.Player.the-variants.{Controller, Environment}
 use Rattle.arena.specs.Game.{GameMoves, GameGoals, starts}
-use Rattle.image.specs.declared.kind.Kind.the-variants.{Table}
 use Rattle.image.specs.Judging.{judged}
-use Rattle.image.specs.Tables.{table-moves, table-goals}
+use Rattle.opened.specs.Opened.{spelled-moves, spelled-goals}
 use Rattle.verdict.specs.declared.answer.Verdicts.{Verdicts}
 use Rattle.verdict.specs.declared.answer.Answer.{Answer}
 use Rattle.verdict.specs.declared.answer.Answer.the-variants.{Refused, Solved}
@@ -31,7 +31,7 @@ pub record Complete (m : GameMoves) (g : GameGoals) (v : Verdicts) : Type 0 wher
   pub each-state : vec-len (v .winners) ≡ m .states
   pub starts-won : Decides (v .realizable) (Starts-won g (vec-items (v .winners)))
 
--- The answer is the refusal that the judging gives, or complete verdicts of the game that the table spells.
+-- The answer is the refusal that the judging gives, or complete verdicts of the game that the image spells.
 abbrev pub Answers : List ℕ → Answer → Type 0
 Answers bs (Refused e) = judged bs ≡ Err e
-Answers bs (Solved v) = (judged bs ≡ Ok Table) × Complete (table-moves bs) (table-goals bs) v
+Answers bs (Solved v) = (isOk (judged bs) ≡ true) × Complete (spelled-moves bs) (spelled-goals bs) v

@@ -1,8 +1,8 @@
 ghost use mathlib.Core.Path.{_≡_};
+ghost use mathlib.Core.Bool.{true};
 ghost use Rattle.std.specs.Orderings.{Decides};
-ghost use Rattle.std.specs.Results.{Cases};
+ghost use Rattle.std.specs.Results.{Cases, isOk};
 ghost use Rattle.std.specs.Vec.{made};
-ghost use Rattle.std.specs.declared.result.Result.the-variants.{Ok};
 ghost use lib.ListN.{getD};
 ghost use Rattle.arena.specs.declared.player.Player.the-variants.{Environment};
 ghost use Rattle.image.specs.Judging.{judged};
@@ -10,14 +10,13 @@ ghost use Rattle.verdict.specs.Answers.{Answers, Complete, Starts-won, is-cont
 use arena::Arena;
 use arena::Moves;
 use arena::Player;
-use image::Kind;
 use image::Refusal;
-use image::Table;
-use image::TableArena;
-use image::TableHasGoals;
-use image::TableHasMoves;
-use image::TableMoves;
 use image::judge;
+use opened::Image;
+use opened::ImageArena;
+use opened::ImageHasGoals;
+use opened::ImageHasMoves;
+use opened::ImageMoves;
 use std::alloc::AllocError;
 use std::alloc::Global;
 
@@ -38,10 +37,10 @@ pub struct Verdicts {
 /// Answers the bytes of an image: why they are refused, or the verdicts of the game that they spell. Memory can be wanting only
 /// for verdicts.
 pub fn answer_image(heap: Global, bytes: &[u8]) -> Result<Answer, AllocError>
-    ensures { λ r. ⌜ Cases r (Answers (now (bytes .entry))) (λ _. judged (now (bytes .entry)) ≡ Ok Kind.Table) ⌝ }
+    ensures { λ r. ⌜ Cases r (Answers (now (bytes .entry))) (λ _. isOk (judged (now (bytes .entry))) ≡ true) ⌝ }
 {
     match judge(bytes) {
-        Ok(Kind::Table) => Ok(Answer::Solved(solve(heap, &Table::open(bytes))?)),
+        Ok(_) => Ok(Answer::Solved(solve(heap, &Image::open(bytes))?)),
         Err(refusal) => Ok(Answer::Refused(refusal)),
     }
 }
