@@ -1,3 +1,4 @@
 pub mod Masking
 pub mod Counting
 pub mod Ruling
+pub mod Example

@@ -1,7 +1,8 @@
 -- The game that rules spell. Assumes nothing.
+use mathlib.Core.Path.{_≡_}
 use mathlib.Core.Bool.{Bool, cond, _&&_}
 use mathlib.Core.List.{List}
-use Prim.Native.Nat.{ℕ, _+_, _*_, _^_}
+use Prim.Native.Nat.{ℕ, _+_, _*_, _^_, _<_}
 use lib.Dec.{ltb}
 use Rattle.std.specs.declared.option.Option.the-variants.{Some, None}
 use Rattle.arena.specs.Game.{GameMoves, GameGoals}
@@ -56,3 +57,8 @@ rules-goals bs = record {
   guaranteed = λ j q. ltb j (guarantees-of bs) && (ltb q (state-count bs) && rows-hold bs 3 (Member j q));
   start = λ q. ltb q (state-count bs) && rows-hold bs 4 (Start q);
 }
+
+-- The rows of the environment ask nothing of the reply: whatever reply follows an input, they hold at the state of both exactly if
+-- they hold at the input alone.
+abbrev pub Inputs-alone : List ℕ → Type 0
+Inputs-alone bs = (q x y : ℕ) → x < input-count bs → rows-hold bs 0 (Step q (state-of bs x y)) ≡ rows-hold bs 0 (Step q x)

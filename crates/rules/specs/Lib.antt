@@ -1,3 +1,4 @@
 pub mod Signals
 pub mod Rows
 pub mod Games
+pub mod Worked
