@@ -1,3 +1,4 @@
 pub mod Searching
 pub mod Placing
 pub mod Sounding
+pub mod Fields

@@ -17,7 +17,7 @@ use Rattle.rules.specs.declared.row.Question.the-variants.{Step}
 use Rattle.rules.specs.Games.{state-count, input-count, reply-count, state-of, rules-moves, rules-goals}
 use Rattle.rules.specs.Rows.{rows-hold}
 
-pow-at-most : (i j : ℕ) → i ≤ j → 2 ^ i ≤ 2 ^ j
+pub pow-at-most : (i j : ℕ) → i ≤ j → 2 ^ i ≤ 2 ^ j
 pow-at-most i j l =
     ⊎-elim (λ (same : i ≡ j). subst (λ (k : ℕ). 2 ^ i ≤ 2 ^ k) same (omega arith))
     (λ (other : i ≡ j → ⊥). omega (arith, pow-below i j (omega (arith, l, other)))) (cases-eq i j)

@@ -4,7 +4,7 @@ ghost use mathlib.Core.Bool.{true};
 ghost use Prim.Native.Nat.{_^_, _≤_};
 ghost use Rattle.image.specs.Bytes.{number-at};
 ghost use Rattle.image.specs.Opening.{bytes-as};
-ghost use Rattle.rules.specs.Games.{is-rules, rules-moves, rules-goals};
+ghost use Rattle.rules.specs.Games.{is-rules, rules-moves, rules-goals, Inputs-alone};
 ghost use Rattle.rules.specs.Rows.{rows-hold};
 use crate::row::Question;
 use crate::row::Rows;
@@ -36,12 +36,20 @@ pub struct Rules<'a> {
 impl<'a> Rules<'a> {
     /// The rules of an image, or the built-in rules where the image is of another kind.
     pub fn of(image: Judged<'a>) -> Rules<'a>
-        ensures { λ r. ⌜ now (r .bytes) ≡ bytes-as Kind.Rules (image .entry .kind) (now (image .entry .bytes)) ⌝ }
+        ensures bytes { λ r. ⌜ now (r .bytes) ≡ bytes-as Kind.Rules (image .entry .kind) (now (image .entry .bytes)) ⌝ }
+        ensures alone { λ r. ⌜ Inputs-alone (now (r .bytes)) ⌝ }
     {
-        Rules {
+        let rules = Rules {
             bytes: image.bytes_as(Kind::Rules),
-        }
+        };
+        rules.environment_rows_ask_nothing_of_the_reply();
+        rules
     }
+
+    // A theorem has nothing to run: its contract hands it to the caller.
+    fn environment_rows_ask_nothing_of_the_reply(&self)
+        ensures { λ _. ⌜ Inputs-alone (now (now (self .entry) .bytes)) ⌝ }
+    {}
 
     // The number of the header at this offset.
     fn header(&self, at: usize) -> u16
