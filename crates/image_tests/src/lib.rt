@@ -1,6 +1,10 @@
 //! Examples of images, opened and refused.
 
 #[cfg(test)]
-mod opened;
+mod refused_rules;
 #[cfg(test)]
-mod refused;
+mod refused_tables;
+#[cfg(test)]
+mod signals;
+#[cfg(test)]
+mod tables;

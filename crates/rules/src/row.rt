@@ -1,5 +1,8 @@
 ghost use mathlib.Core.Path.{_≡_};
+ghost use mathlib.Core.Bool.{not, _||_};
 ghost use Prim.Native.Nat.{_+_, _*_, _^_, _<_, _≤_};
+ghost use lib.Bits.{bitAnd};
+ghost use lib.Dec.{eqb};
 ghost use Rattle.image.specs.Bytes.{number-at};
 ghost use Rattle.image.specs.Format.{section-at, row-width-of};
 ghost use Rattle.rules.specs.Rows.{row-holds, row-count};
@@ -32,10 +35,16 @@ impl Masks {
     fn hold_at(self, state: u16) -> bool
         ensures { λ r. ⌜ r ≡ masks-hold (self .on) (self .off) state ⌝ }
     {
+        self.bits_stand_for_signals(state);
         let on = self.on & state;
         let off = self.off & state;
         (on != 0) | (off != self.off)
     }
+
+    // A theorem has nothing to run: its contract hands it to the caller.
+    fn bits_stand_for_signals(self, state: u16)
+        ensures { λ _. ⌜ masks-hold (self .on) (self .off) state ≡ (not (eqb (bitAnd (self .on) state) 0) || not (eqb (bitAnd (self .off) state) (self .off))) ⌝ }
+    {}
 }
 
 // What the rows of a section are asked.

@@ -3,6 +3,7 @@ ghost use mathlib.Core.Path.{_≡_};
 ghost use mathlib.Core.Bool.{true};
 ghost use Prim.Native.Nat.{_^_, _≤_};
 ghost use Rattle.image.specs.Bytes.{number-at};
+ghost use Rattle.image.specs.Format.{input-bits-of, output-bits-of, state-bits-of};
 ghost use Rattle.image.specs.Opening.{bytes-as};
 ghost use Rattle.rules.specs.Games.{is-rules, rules-moves, rules-goals, Inputs-alone};
 ghost use Rattle.rules.specs.Rows.{rows-hold};
@@ -58,6 +59,30 @@ impl<'a> Rules<'a> {
         number(self.bytes, at)
     }
 
+    // How many input signals there are.
+    fn input_bits(&self) -> u16
+        ensures value { λ r. ⌜ r ≡ input-bits-of (now (now (self .entry) .bytes)) ⌝ }
+        ensures few { λ r. ⌜ r ≤ 6 ⌝ }
+    {
+        self.header(INPUT_BITS)
+    }
+
+    // How many output signals there are.
+    fn output_bits(&self) -> u16
+        ensures value { λ r. ⌜ r ≡ output-bits-of (now (now (self .entry) .bytes)) ⌝ }
+        ensures few { λ r. ⌜ r ≤ 6 ⌝ }
+    {
+        self.header(OUTPUT_BITS)
+    }
+
+    // How many signals there are.
+    fn state_bits(&self) -> u16
+        ensures value { λ r. ⌜ r ≡ state-bits-of (now (now (self .entry) .bytes)) ⌝ }
+        ensures few { λ r. ⌜ r ≤ 10 ⌝ }
+    {
+        self.input_bits() + self.output_bits()
+    }
+
     // Whether every row of a section holds.
     fn rows_hold(&self, pair: u8, asked: Question) -> bool
         ensures { λ r. ⌜ r ≡ rows-hold (now (now (self .entry) .bytes)) pair asked ⌝ }
@@ -80,15 +105,15 @@ pub impl<'a> HasMoves for Rules<'a> as RulesHasMoves {
 
 pub impl<'a> Moves for Rules<'a> as RulesMoves {
     fn states(&self) -> u16 {
-        two_to(self.header(INPUT_BITS) + self.header(OUTPUT_BITS))
+        two_to(self.state_bits())
     }
 
     fn inputs(&self) -> u16 {
-        two_to(self.header(INPUT_BITS))
+        two_to(self.input_bits())
     }
 
     fn replies(&self) -> u16 {
-        two_to(self.header(OUTPUT_BITS))
+        two_to(self.output_bits())
     }
 
     fn is_open(&self, state: u16, input: u16) -> bool {

@@ -1,9 +1,0 @@
-use native.Mathlib.Omega.{arith}
-use Rattle.image.specs.declared.kind.Kind.the-variants.{Rules}
-use Rattle.image.proofs.Sounding.{sound}
-use Rattle.rules.proofs.Ruling.{few-outputs}
-use Rattle.rules.proofs.rules.RulesMoves.replies.Needs as need
-
-pub two-to-requires : need.two-to-requires
-two-to-requires c κs =
-    omega (arith, few-outputs (c .args .self .now .bytes .now) (sound Rules (c .args .self .now .bytes .now) (c .args .self .now .lawful)))
