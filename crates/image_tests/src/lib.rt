@@ -1,6 +1,8 @@
 //! Examples of images, opened and refused.
 
 #[cfg(test)]
+mod changes;
+#[cfg(test)]
 mod refused_rules;
 #[cfg(test)]
 mod refused_tables;

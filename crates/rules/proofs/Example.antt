@@ -3,7 +3,6 @@ use mathlib.Core.Path.{_≡_, refl, ap}
 use mathlib.Core.Bool.{Bool, true, false, cond, not, _&&_}
 use Prim.Native.Nat.{ℕ, _+_, _*_, _%_, _<_}
 use lib.Dec.{eqb, ltb, leb}
-use Rattle.std.specs.declared.option.Option.{Option}
 use Rattle.std.specs.declared.option.Option.the-variants.{Some, None}
 use Rattle.std.proofs.shelf.Tests.{ltb-true, false≢true}
 use Rattle.image.specs.First.{first}
@@ -34,55 +33,44 @@ guarded n f g agree q = go (ltb q n) refl
     go true e = agree q (ltb-true q n e)
     go false e = refl
 
-one : (f g : ℕ → Bool) → every 4 (λ q. same (f q) (g q)) ≡ true → (q : ℕ) → (ltb q 4 && f q) ≡ (ltb q 4 && g q)
-one f g e = guarded 4 f g (λ q l. same-is _ _ (each-passes 4 (λ q. same (f q) (g q)) e q l))
+-- Tests of one, two or three numbers that say the same below the bounds, which is computed, say the same beside the bounds.
+one : (n : ℕ) (f g : ℕ → Bool) → every n (λ q. same (f q) (g q)) ≡ true → (q : ℕ) → (ltb q n && f q) ≡ (ltb q n && g q)
+one n f g e = guarded n f g (λ q l. same-is _ _ (each-passes n (λ q. same (f q) (g q)) e q l))
 
-two : (f g : ℕ → ℕ → Bool) → every 4 (λ q. every 2 (λ x. same (f q x) (g q x))) ≡ true →
-    (q x : ℕ) → (ltb q 4 && (ltb x 2 && f q x)) ≡ (ltb q 4 && (ltb x 2 && g q x))
-two f g e q x =
-    guarded 4 (λ p. ltb x 2 && f p x) (λ p. ltb x 2 && g p x)
-    (λ p l. guarded 2 (f p) (g p) (λ z m. same-is _ _ (each-passes 2 _ (each-passes 4 _ e p l) z m)) x) q
+two :
+    (n m : ℕ) (f g : ℕ → ℕ → Bool) → every n (λ q. every m (λ x. same (f q x) (g q x))) ≡ true →
+    (q x : ℕ) → (ltb q n && (ltb x m && f q x)) ≡ (ltb q n && (ltb x m && g q x))
+two n m f g e q x =
+    guarded n (λ p. ltb x m && f p x) (λ p. ltb x m && g p x) (λ p l. one m (f p) (g p) (each-passes n _ e p l) x) q
 
-three : (f g : ℕ → ℕ → ℕ → Bool) → every 4 (λ q. every 2 (λ x. every 2 (λ y. same (f q x y) (g q x y)))) ≡ true →
-    (q x y : ℕ) → (ltb q 4 && (ltb x 2 && (ltb y 2 && f q x y))) ≡ (ltb q 4 && (ltb x 2 && (ltb y 2 && g q x y)))
-three f g e q x y =
-    guarded 4 (λ p. ltb x 2 && (ltb y 2 && f p x y)) (λ p. ltb x 2 && (ltb y 2 && g p x y))
-    (λ p l.
-    guarded 2 (λ z. ltb y 2 && f p z y) (λ z. ltb y 2 && g p z y)
-    (λ z m. guarded 2 (f p z) (g p z) (λ v n. same-is _ _ (each-passes 2 _ (each-passes 2 _ (each-passes 4 _ e p l) z m) v n)) y) x)
-    q
+three :
+    (n m k : ℕ) (f g : ℕ → ℕ → ℕ → Bool) → every n (λ q. every m (λ x. every k (λ y. same (f q x y) (g q x y)))) ≡ true →
+    (q x y : ℕ) → (ltb q n && (ltb x m && (ltb y k && f q x y))) ≡ (ltb q n && (ltb x m && (ltb y k && g q x y)))
+three n m k f g e q x y =
+    guarded n (λ p. ltb x m && (ltb y k && f p x y)) (λ p. ltb x m && (ltb y k && g p x y))
+    (λ p l. two m k (f p) (g p) (each-passes n _ e p l) x y) q
 
 opened : (q x : ℕ) → rules-moves worked-bytes .opened q x ≡ worked-game .moves .opened q x
 unfolding same some every
-opened = two (λ q x. rows-hold worked-bytes 0 (Step q x)) (λ q x. not (eqb (q % 2) 1 && eqb x 1)) refl
+opened = two 4 2 (λ q x. rows-hold worked-bytes 0 (Step q x)) (λ q x. not (eqb (q % 2) 1 && eqb x 1)) refl
 
 leads : (q x y : ℕ) → rules-moves worked-bytes .leads q x y ≡ worked-game .moves .leads q x y
 unfolding same some every
 leads q x y =
     ap (λ (b : Bool). cond b (Some (x + 2 * y)) None)
-    (three (λ q x y. rows-hold worked-bytes 1 (Step q (state-of worked-bytes x y))) (λ q x y. not (leb 2 q && eqb y 1)) refl q x y)
+    (three 4 2 2 (λ q x y. rows-hold worked-bytes 1 (Step q (state-of worked-bytes x y))) (λ q x y. not (leb 2 q && eqb y 1)) refl q x y)
 
 assumed : (i q : ℕ) → rules-goals worked-bytes .assumed i q ≡ worked-game .goals .assumed i q
 unfolding same some every
-assumed i q =
-    guarded 1 (λ i. ltb q 4 && rows-hold worked-bytes 2 (Member i q)) (λ i. ltb q 4 && eqb (q % 2) 1)
-    (λ i l.
-    one (λ q. rows-hold worked-bytes 2 (Member i q)) (λ q. eqb (q % 2) 1)
-    (each-passes 1 (λ i. every 4 (λ q. same (rows-hold worked-bytes 2 (Member i q)) (eqb (q % 2) 1))) refl i l) q)
-    i
+assumed = two 1 4 (λ i q. rows-hold worked-bytes 2 (Member i q)) (λ i q. eqb (q % 2) 1) refl
 
 guaranteed : (j q : ℕ) → rules-goals worked-bytes .guaranteed j q ≡ worked-game .goals .guaranteed j q
 unfolding same some every
-guaranteed j q =
-    guarded 1 (λ j. ltb q 4 && rows-hold worked-bytes 3 (Member j q)) (λ j. ltb q 4 && leb 2 q)
-    (λ j l.
-    one (λ q. rows-hold worked-bytes 3 (Member j q)) (λ q. leb 2 q)
-    (each-passes 1 (λ j. every 4 (λ q. same (rows-hold worked-bytes 3 (Member j q)) (leb 2 q))) refl j l) q)
-    j
+guaranteed = two 1 4 (λ j q. rows-hold worked-bytes 3 (Member j q)) (λ j q. leb 2 q) refl
 
 start : (q : ℕ) → rules-goals worked-bytes .start q ≡ worked-game .goals .start q
 unfolding same some every
-start = one (λ q. rows-hold worked-bytes 4 (Start q)) (λ q. eqb q 0) refl
+start = one 4 (λ q. rows-hold worked-bytes 4 (Start q)) (λ q. eqb q 0) refl
 
 pub worked : Worked
 unfolding first

@@ -51,11 +51,11 @@ impl Masks {
 #[derive(Clone, Copy)]
 pub(crate) enum Question {
     // Whether they hold at a step from the current to the next state.
-    Step(u16, u16),
+    Step { current: u16, next: u16 },
     // Whether those of this set hold at a state.
-    Member(u16, u16),
+    Member { set: u16, state: u16 },
     // Whether they hold at a state.
-    Start(u16),
+    Start { state: u16 },
 }
 
 impl Question {
@@ -65,28 +65,30 @@ impl Question {
         ensures { λ r. ⌜ r ≡ row-holds self (now (bytes .entry)) at ⌝ }
     {
         match self {
-            Question::Step(current, next) => {
+            Question::Step { current, next } => {
                 Masks::read(bytes, at).hold_at(current) || Masks::read(bytes, at + 4).hold_at(next)
             }
-            Question::Member(set, state) => {
+            Question::Member { set, state } => {
                 number(bytes, at) != set || Masks::read(bytes, at + 2).hold_at(state)
             }
-            Question::Start(state) => Masks::read(bytes, at).hold_at(state),
+            Question::Start { state } => Masks::read(bytes, at).hold_at(state),
         }
     }
 }
 
 // The rows of a section.
 #[derive(Clone, Copy)]
-pub(crate) struct Rows {
+pub(crate) struct Rows<'a> {
+    bytes: &'a [u8],
     at: usize,
     width: usize,
     count: usize,
 }
 
-impl Rows {
+impl<'a> Rows<'a> {
     // The rows of the section of a pair.
-    pub(crate) fn of(bytes: &[u8], pair: u8) -> Rows
+    pub(crate) fn of(bytes: &'a [u8], pair: u8) -> Rows<'a>
+        ensures read { λ r. ⌜ now (r .bytes) ≡ now (bytes .entry) ⌝ }
         ensures begin { λ r. ⌜ r .at ≡ section-at (now (bytes .entry)) pair ⌝ }
         ensures wide { λ r. ⌜ r .width ≡ row-width-of pair ⌝ }
         ensures counted { λ r. ⌜ r .count ≡ row-count (now (bytes .entry)) pair ⌝ }
@@ -95,6 +97,7 @@ impl Rows {
         let section = Section::read(bytes, pair);
         let width = row_width(pair);
         Rows {
+            bytes,
             at: section.offset,
             width,
             count: section.size / width,
@@ -102,12 +105,12 @@ impl Rows {
     }
 
     // Whether every row holds; the first that does not decides.
-    pub(crate) fn hold(self, bytes: &[u8], asked: Question) -> bool
+    pub(crate) fn hold(self, asked: Question) -> bool
         requires { ⌜ (self .at < 65536) × ((self .width ≤ 8) × (self .count < 65536)) ⌝ }
-        ensures { λ r. ⌜ r ≡ every (self .count) (λ n. row-holds asked (now (bytes .entry)) (self .at + self .width * n)) ⌝ }
+        ensures { λ r. ⌜ r ≡ every (self .entry .count) (λ n. row-holds asked (now (self .entry .bytes)) (self .entry .at + self .entry .width * n)) ⌝ }
     {
         for row in 0..self.count {
-            if !asked.holds(bytes, self.at + self.width * row) {
+            if !asked.holds(self.bytes, self.at + self.width * row) {
                 return false;
             }
         }

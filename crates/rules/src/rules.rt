@@ -87,7 +87,7 @@ impl<'a> Rules<'a> {
     fn rows_hold(&self, pair: u8, asked: Question) -> bool
         ensures { λ r. ⌜ r ≡ rows-hold (now (now (self .entry) .bytes)) pair asked ⌝ }
     {
-        Rows::of(self.bytes, pair).hold(self.bytes, asked)
+        Rows::of(self.bytes, pair).hold(asked)
     }
 }
 
@@ -120,7 +120,11 @@ pub impl<'a> Moves for Rules<'a> as RulesMoves {
         if state >= self.states() || input >= self.inputs() {
             return false;
         }
-        self.rows_hold(ENVIRONMENT_ROWS, Question::Step(state, input))
+        let step = Question::Step {
+            current: state,
+            next: input,
+        };
+        self.rows_hold(ENVIRONMENT_ROWS, step)
     }
 
     fn leads(&self, state: u16, input: u16, reply: u16) -> Next {
@@ -129,7 +133,11 @@ pub impl<'a> Moves for Rules<'a> as RulesMoves {
             return Next::Barred;
         }
         let next = input + inputs * reply;
-        if self.rows_hold(CONTROLLER_ROWS, Question::Step(state, next)) {
+        let step = Question::Step {
+            current: state,
+            next,
+        };
+        if self.rows_hold(CONTROLLER_ROWS, step) {
             Next::To(next)
         } else {
             Next::Barred
@@ -154,20 +162,20 @@ pub impl<'a> Arena for Rules<'a> as RulesArena {
         if set >= self.assumptions() || state >= self.states() {
             return false;
         }
-        self.rows_hold(ASSUMPTION_ROWS, Question::Member(set, state))
+        self.rows_hold(ASSUMPTION_ROWS, Question::Member { set, state })
     }
 
     fn in_guarantee(&self, set: u16, state: u16) -> bool {
         if set >= self.guarantees() || state >= self.states() {
             return false;
         }
-        self.rows_hold(GUARANTEE_ROWS, Question::Member(set, state))
+        self.rows_hold(GUARANTEE_ROWS, Question::Member { set, state })
     }
 
     fn is_start(&self, state: u16) -> bool {
         if state >= self.states() {
             return false;
         }
-        self.rows_hold(START_ROWS, Question::Start(state))
+        self.rows_hold(START_ROWS, Question::Start { state })
     }
 }

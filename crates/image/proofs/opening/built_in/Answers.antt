@@ -1,7 +1,5 @@
 use mathlib.Core.Path.{_≡_, refl, sym, ap, _∙_}
 use mathlib.Core.Bool.{true}
-use mathlib.Core.List.{List}
-use Prim.Native.Nat.{ℕ}
 use Rattle.image.specs.declared.kind.Kind.{Kind}
 use Rattle.image.specs.declared.kind.Kind.the-variants.{Table, Rules}
 use Rattle.image.specs.First.{first}
