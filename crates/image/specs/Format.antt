@@ -81,7 +81,7 @@ abbrev pub limits-of : Kind → List ℕ
 limits-of Table = 1024 ∷ 64 ∷ 64 ∷ 8 ∷ 8 ∷ []
 limits-of Rules = 6 ∷ 6 ∷ 0 ∷ 8 ∷ 8 ∷ []
 
--- Rules have at most ten bits together; more count against the output bits, which are number 1 after the kind.
+-- Rules have at most ten bits together; more count against the output bits, header number 1, counted from 0 after the kind.
 abbrev pub too-many-bits : Kind → List ℕ → ℕ → Bool
 too-many-bits Table bs h = false
 too-many-bits Rules bs h = eqb h 1 && ltb 10 (state-bits-of bs)

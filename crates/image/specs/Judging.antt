@@ -52,7 +52,7 @@ number-bad k bs h =
 abbrev pub bad-number : Kind → List ℕ → Option ℕ
 bad-number k bs = first 5 (λ h. value-if (number-bad k bs h) (number-offset h))
 
--- Where section i may begin at the earliest: after the header, or after the section before it, which itself does.
+-- Where section i may begin at the earliest: at the end of the header, or of the section before it, which lies after the header.
 abbrev pub earliest-start : Kind → List ℕ → ℕ → ℕ
 earliest-start k bs i = cond (eqb i 0) (header-end k) (section-at bs (i - 1) + section-size bs (i - 1))
 

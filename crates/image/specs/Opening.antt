@@ -39,22 +39,22 @@ built-in Rules =
     0 ∷ 0 ∷ 0 ∷ 0 ∷ 0 ∷ 0 ∷ 0 ∷ 0 ∷ []
 
 -- The kind that is opened, given what the judging says.
-abbrev pub kind-opened : Result Kind Refusal → Kind
-kind-opened (Ok k) = k
-kind-opened (Err e) = Table
+abbrev pub kind-after : Result Kind Refusal → Kind
+kind-after (Ok k) = k
+kind-after (Err e) = Table
 
 -- The bytes that are opened, given what the judging says: the bytes themselves, or the built-in table where they are refused.
-abbrev pub bytes-opened : Result Kind Refusal → List ℕ → List ℕ
-bytes-opened (Ok k) bs = bs
-bytes-opened (Err e) bs = built-in Table
+abbrev pub bytes-after : Result Kind Refusal → List ℕ → List ℕ
+bytes-after (Ok k) bs = bs
+bytes-after (Err e) bs = built-in Table
 
 -- The kind that any byte string is opened as.
 abbrev pub opened-kind : List ℕ → Kind
-opened-kind bs = kind-opened (judged bs)
+opened-kind bs = kind-after (judged bs)
 
 -- The bytes that any byte string is opened as.
 abbrev pub opened-bytes : List ℕ → List ℕ
-opened-bytes bs = bytes-opened (judged bs) bs
+opened-bytes bs = bytes-after (judged bs) bs
 
 -- The bytes of an image of kind j, taken as one of kind k: themselves if the kinds are the same, and else the built-in image.
 abbrev pub bytes-as : Kind → Kind → List ℕ → List ℕ

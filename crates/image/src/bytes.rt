@@ -3,21 +3,25 @@ ghost use Prim.Native.Nat.{_<_};
 ghost use Rattle.image.specs.Bytes.{byte-at, number-at};
 ghost use Rattle.image.specs.Format.{section-at, section-size};
 
-// Where the sizes of a table stand in the header.
+/// Where a table tells how many states it has.
 pub const STATES: usize = 2;
 
+/// Where a table tells how many inputs it has.
 pub const INPUTS: usize = 4;
 
+/// Where a table tells how many replies it has.
 pub const REPLIES: usize = 6;
 
-// Where the sizes of rules stand in the header.
+/// Where rules tell how many input signals they have.
 pub const INPUT_BITS: usize = 2;
 
+/// Where rules tell how many output signals they have.
 pub const OUTPUT_BITS: usize = 4;
 
-// Where the counts of sets stand in the header of any kind.
+/// Where an image tells how many assumption sets it has.
 pub const ASSUMPTION_SETS: usize = 8;
 
+/// Where an image tells how many guarantee sets it has.
 pub const GUARANTEE_SETS: usize = 10;
 
 // The byte at an offset. What lies past the end counts as 0.

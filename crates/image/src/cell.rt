@@ -62,7 +62,7 @@ impl Cell {
     }
 }
 
-// Whether a mask has no bit from this one on.
+// Whether a mask has only bits below this one.
 fn has_only_bits(mask: u16, bits: u32) -> bool
     ensures { λ r. ⌜ r ≡ ltb mask (2 ^ bits) ⌝ }
 {

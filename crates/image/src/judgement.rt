@@ -43,7 +43,7 @@ fn earliest(kind: Kind, bytes: &[u8], pair: u8) -> usize
     before.offset + before.size
 }
 
-// What is asked of a pair: whether its section lies where it may, or whether it has the length that it must.
+// What is asked of a pair: whether its section lies where it may, or whether it has a length that it may have.
 #[derive(Clone, Copy)]
 pub(crate) enum PairTest {
     Place,

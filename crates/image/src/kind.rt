@@ -11,26 +11,34 @@ use crate::bytes::STATES;
 use crate::bytes::number;
 use crate::cell::Cell;
 
-// The sections of a table, by their pairs.
+/// The pair of a table's open flags.
 pub const OPEN_FLAGS: u8 = 0;
 
+/// The pair of a table's next states.
 pub const NEXT_STATES: u8 = 1;
 
+/// The pair of a table's assumption sets.
 pub const ASSUMPTIONS: u8 = 2;
 
+/// The pair of a table's guarantee sets.
 pub const GUARANTEES: u8 = 3;
 
+/// The pair of a table's starts.
 pub const STARTS: u8 = 4;
 
-// The sections of rules, by their pairs.
+/// The pair of the rows of rules that close inputs.
 pub const ENVIRONMENT_ROWS: u8 = 0;
 
+/// The pair of the rows of rules that bar replies.
 pub const CONTROLLER_ROWS: u8 = 1;
 
+/// The pair of the rows of rules that make assumption sets.
 pub const ASSUMPTION_ROWS: u8 = 2;
 
+/// The pair of the rows of rules that make guarantee sets.
 pub const GUARANTEE_ROWS: u8 = 3;
 
+/// The pair of the rows of rules that make the starts.
 pub const START_ROWS: u8 = 4;
 
 /// The next state that means a barred reply.

@@ -1,7 +1,7 @@
 //! Images: byte strings that spell a game.
 //!
-//! `judge` says whether bytes are an image and of which kind, or why they are refused. The arenas that open an image of one kind
-//! stand on `or_built_in`, and read it by `number` and `Section`.
+//! `judge` says whether bytes are an image and of which kind, or why they are refused. The arenas of one kind
+//! are made of a `Judged` image, and read its bytes by `number` and `Section`.
 
 mod bytes;
 mod cell;

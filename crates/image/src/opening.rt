@@ -49,8 +49,7 @@ impl<'a> Judged<'a> {
     }
 }
 
-// The built-in image of a kind. A table: every count is 1; the pairs; then closed, leads to 0, in no set, no start. Rules: a bit
-// for each side and one set of each kind; the pairs; then a row of the environment that never holds, and no other.
+// The built-in image of a kind: its numbers, its pairs, and its sections.
 fn built_in(kind: Kind) -> &'static [u8]
     ensures same { λ r. ⌜ now r ≡ built-in kind ⌝ }
     ensures lawful { λ r. ⌜ is-image kind (now r) ≡ true ⌝ }

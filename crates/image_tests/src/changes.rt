@@ -7,34 +7,39 @@ use image::RefusalPartialEq;
 use image::judge;
 use std::test::*;
 
-// The image with another byte at one offset, or as it is where there is no such offset.
-pub(crate) fn changed<const N: usize>(image: [u8; N], at: usize, byte: u8) -> [u8; N] {
+// The image with another byte at an offset, which it must have.
+pub(crate) fn changed<const N: usize>(
+    image: [u8; N],
+    at: usize,
+    byte: u8,
+) -> Result<[u8; N], Fail> {
     let mut changed = image;
+    check(at < N)?;
     if at < N {
         changed[at] = byte;
     }
-    changed
+    Ok(changed)
 }
 
-// Each byte, put at its offset, has the image refused.
+// With each byte at its offset the image is refused.
 pub(crate) fn check_refused<const N: usize>(
     image: [u8; N],
     cases: &[(usize, u8, Refusal)],
 ) -> Result<(), Fail> {
     for (at, byte, refusal) in cases {
-        check_eq(judge(&changed(image, *at, *byte)), Err(*refusal))?;
+        check_eq(judge(&changed(image, *at, *byte)?), Err(*refusal))?;
     }
     Ok(())
 }
 
-// Each byte, put at its offset, leaves an image of the kind.
+// With each byte at its offset the image is one of the kind.
 pub(crate) fn check_granted<const N: usize>(
     image: [u8; N],
     kind: Kind,
     cases: &[(usize, u8)],
 ) -> Result<(), Fail> {
     for (at, byte) in cases {
-        check_eq(judge(&changed(image, *at, *byte)), Ok(kind))?;
+        check_eq(judge(&changed(image, *at, *byte)?), Ok(kind))?;
     }
     Ok(())
 }

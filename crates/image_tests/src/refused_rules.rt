@@ -43,12 +43,12 @@ fn header_numbers_out_of_range_are_refused() -> Result<(), Fail> {
 #[test]
 fn more_than_ten_bits_count_against_the_output() -> Result<(), Fail> {
     for (inputs, outputs) in [(6, 4), (4, 6), (5, 5), (1, 6), (6, 1)] {
-        let mut image = changed(worked_image(), 2, inputs);
+        let mut image = changed(worked_image(), 2, inputs)?;
         image[4] = outputs;
         check_eq(judge(&image), Ok(Kind::Rules))?;
     }
     for (inputs, outputs) in [(6, 5), (5, 6), (6, 6)] {
-        let mut image = changed(worked_image(), 2, inputs);
+        let mut image = changed(worked_image(), 2, inputs)?;
         image[4] = outputs;
         check_eq(judge(&image), Err(Refusal::Header(4)))?;
     }
@@ -131,6 +131,22 @@ fn values_that_are_not_allowed_are_refused() -> Result<(), Fail> {
 }
 
 #[test]
+fn set_numbers_are_below_their_own_count() -> Result<(), Fail> {
+    let image = changed(worked_image(), 8, 2)?;
+    check_granted(image, Kind::Rules, &[(0x30, 1)])?;
+    check_refused(
+        image,
+        &[
+            (0x30, 2, Refusal::Value(0x30)),
+            (0x36, 1, Refusal::Value(0x36)),
+        ],
+    )?;
+    let image = changed(worked_image(), 10, 2)?;
+    check_granted(image, Kind::Rules, &[(0x36, 1)])?;
+    check_refused(image, &[(0x30, 1, Refusal::Value(0x30))])
+}
+
+#[test]
 fn masks_may_name_any_signal_that_there_is() -> Result<(), Fail> {
     check_granted(
         worked_image(),
@@ -149,7 +165,7 @@ fn masks_may_name_any_signal_that_there_is() -> Result<(), Fail> {
 
 #[test]
 fn the_first_bad_field_is_told() -> Result<(), Fail> {
-    let mut image = changed(worked_image(), 0x3c, 4);
+    let mut image = changed(worked_image(), 0x3c, 4)?;
     check_eq(judge(&image), Err(Refusal::Value(0x3c)))?;
     image[0x34] = 4;
     check_eq(judge(&image), Err(Refusal::Value(0x34)))?;

@@ -74,7 +74,7 @@ fn sections_of_another_length_are_refused() -> Result<(), Fail> {
 
 #[test]
 fn an_empty_section_may_stand_at_the_end_and_not_beyond() -> Result<(), Fail> {
-    let mut image = changed(worked_image(), 0x1e, 0);
+    let mut image = changed(worked_image(), 0x1e, 0)?;
     image[0x1c] = 48;
     check_eq(judge(&image), Err(Refusal::Section(4)))?;
     image[0x1c] = 49;

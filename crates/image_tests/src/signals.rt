@@ -204,13 +204,13 @@ fn every_mask_counts() -> Result<(), Fail> {
 
 // Whether a signal is on.
 fn on(number: u16, signal: u16) -> bool {
-    let bits = match signal {
+    let weight = match signal {
         0 => 1,
         1 => 2,
         2 => 4,
         _ => 8,
     };
-    number / bits % 2 == 1
+    number / weight % 2 == 1
 }
 
 // Ten signals, six of them inputs, and no row.

@@ -25,7 +25,7 @@ pub struct Image<'a> {
 }
 
 impl<'a> Image<'a> {
-    /// Opens the bytes of an image. Bytes that are refused open the built-in table: no caller is trusted to have judged them.
+    /// Opens the bytes of an image of any kind; bytes that are refused open the built-in table.
     pub fn open(bytes: &'a [u8]) -> Image<'a>
         ensures moves { λ r. ⌜ image-moves r ≡ spelled-moves (now (bytes .entry)) ⌝ }
         ensures goals { λ r. ⌜ image-goals r ≡ spelled-goals (now (bytes .entry)) ⌝ }

@@ -7,7 +7,7 @@ use Rattle.std.specs.declared.option.Option.the-variants.{Some, None}
 use Rattle.std.proofs.shelf.Tests.{ltb-true, false≢true}
 use Rattle.image.specs.First.{first}
 use Rattle.rules.specs.declared.row.Question.the-variants.{Step, Member, Start}
-use Rattle.rules.specs.Games.{rules-moves, rules-goals, state-of}
+use Rattle.rules.specs.Games.{rules-moves, rules-goals, state-from}
 use Rattle.rules.specs.Rows.{rows-hold}
 use Rattle.rules.specs.Signals.{some, every}
 use Rattle.rules.specs.Worked.{Worked, worked-bytes, worked-game}
@@ -58,7 +58,7 @@ leads : (q x y : ℕ) → rules-moves worked-bytes .leads q x y ≡ worked-game 
 unfolding same some every
 leads q x y =
     ap (λ (b : Bool). cond b (Some (x + 2 * y)) None)
-    (three 4 2 2 (λ q x y. rows-hold worked-bytes 1 (Step q (state-of worked-bytes x y))) (λ q x y. not (leb 2 q && eqb y 1)) refl q x y)
+    (three 4 2 2 (λ q x y. rows-hold worked-bytes 1 (Step q (state-from worked-bytes x y))) (λ q x y. not (leb 2 q && eqb y 1)) refl q x y)
 
 assumed : (i q : ℕ) → rules-goals worked-bytes .assumed i q ≡ worked-game .goals .assumed i q
 unfolding same some every

@@ -10,13 +10,14 @@ use Rattle.image.specs.declared.kind.Kind.the-variants.{Rules}
 use Rattle.image.specs.Bytes.{number-at}
 use Rattle.image.specs.Format.{input-bits-of}
 use Rattle.image.proofs.Fields.{next-mask}
+use Rattle.image.proofs.Numbers.{pow-at-most}
 use Rattle.image.proofs.Sounding.{Sound}
 use Rattle.rules.specs.Games.{input-count, Inputs-alone}
 use Rattle.rules.specs.Rows.{row-count, row-at, masks-at-hold}
 use Rattle.rules.specs.Signals.{masks-hold}
 use Rattle.rules.proofs.Counting.{every-same}
 use Rattle.rules.proofs.Masking.{masks-by-and}
-use Rattle.rules.proofs.Ruling.{few-inputs, pow-at-most}
+use Rattle.rules.proofs.Ruling.{few-inputs}
 
 -- A mask over the lowest signals keeps nothing of those above.
 low-mask : (a t x y : ℕ) → t < 2 ^ a → x < 2 ^ a → bitAnd t (x + 2 ^ a * y) ≡ bitAnd t x

@@ -7,7 +7,7 @@ use native.Mathlib.Omega.{arith}
 use lib.Bits.{bitAnd}
 use lib.Dec.{eqb}
 use Rattle.std.proofs.shelf.Bits.{pow-pos, mod-pow-add, and-shr, and-mod, and-le-l, mod-below}
-use Rattle.std.proofs.shelf.Tests.{eq-eqb, ne-eqb, cases-eq, false≢true}
+use Rattle.std.proofs.shelf.Tests.{eq-eqb, ne-eqb, cases-eq, or-right, false≢true}
 use Rattle.rules.specs.Signals.{some, has, masks-hold}
 
 -- Bit s of a number.
@@ -55,10 +55,6 @@ or-false : (b : Bool) → (b || false) ≡ b
 or-false true = refl
 or-false false = refl
 
-or-true : (b : Bool) → (b || true) ≡ true
-or-true true = refl
-or-true false = refl
-
 -- A number has a signal below k exactly if it is not 0 there.
 some-has : (n k : ℕ) → some k (has n) ≡ not (eqb (n % 2 ^ k) 0)
 unfolding some
@@ -70,7 +66,7 @@ some-has n (suc k) =
   where
     joined : (d p l : ℕ) → d < 2 → 0 < p → (not (eqb l 0) || eqb d 1) ≡ not (eqb (d * p + l) 0)
     joined zero p l b pos = or-false (not (eqb l 0)) ∙ ap (λ (m : ℕ). not (eqb m 0)) (omega arith)
-    joined (suc zero) p l b pos = or-true (not (eqb l 0)) ∙ sym (ap not (ne-eqb (1 * p + l) 0 (λ e. omega (arith, pos, e))))
+    joined (suc zero) p l b pos = or-right (not (eqb l 0)) true refl ∙ sym (ap not (ne-eqb (1 * p + l) 0 (λ e. omega (arith, pos, e))))
     joined (suc (suc d)) p l b pos = absurd (omega arith)
 
 -- Below k a mask has a signal that the state lacks exactly if masking by the state changes it there.
@@ -96,7 +92,7 @@ some-lacks f q (suc k) =
         or-false (not (eqb g h)) ∙ ap not (same-tests g h (0 * p + g) (0 * p + h) (λ z. omega (arith, z)) (λ z. omega (arith, z)))
     joined zero (suc zero) true p g h a b same l m = absurd (false≢true same)
     joined zero (suc zero) false p g h a b same l m =
-        or-true (not (eqb g h)) ∙ sym (ap not (ne-eqb (0 * p + g) (1 * p + h) (λ z. omega (arith, l, z))))
+        or-right (not (eqb g h)) true refl ∙ sym (ap not (ne-eqb (0 * p + g) (1 * p + h) (λ z. omega (arith, l, z))))
     joined (suc zero) zero on p g h a b same l m = absurd (false≢true (sym same))
     joined (suc zero) (suc zero) true p g h a b same l m =
         or-false (not (eqb g h)) ∙ ap not (same-tests g h (1 * p + g) (1 * p + h) (λ z. omega (arith, z)) (λ z. omega (arith, z)))

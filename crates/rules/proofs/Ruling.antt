@@ -2,47 +2,38 @@
 use mathlib.Core.Path.{_≡_, refl, subst}
 use mathlib.Core.Bool.{Bool, true, false, cond, _&&_}
 use mathlib.Core.List.{List}
-use mathlib.Core.Logic.{⊎-elim}
 use Prim.Native.Nat.{ℕ, _^_, _<_, _≤_}
 use native.Mathlib.Omega.{arith}
 use lib.Dec.{ltb}
 use Rattle.std.specs.declared.option.Option.the-variants.{Some, None}
-use Rattle.std.proofs.shelf.Bits.{pow-pos, pow-below, pow-add, mul-add-lt}
-use Rattle.std.proofs.shelf.Tests.{and-parts, cases-eq, ltb-true, ltb-false}
+use Rattle.std.proofs.shelf.Bits.{pow-pos, pow-add, mul-add-lt}
+use Rattle.std.proofs.shelf.Tests.{and-parts, ltb-true, ltb-false}
 use Rattle.arena.specs.Game.{LawfulMoves, LawfulGoals}
 use Rattle.image.specs.declared.kind.Kind.the-variants.{Rules}
 use Rattle.image.specs.Format.{input-bits-of, output-bits-of, state-bits-of}
+use Rattle.image.proofs.Numbers.{pow-at-most, both-inside, given-where}
 use Rattle.image.proofs.Sounding.{Sound, at-least, at-most, few-bits}
 use Rattle.rules.specs.declared.row.Question.the-variants.{Step}
-use Rattle.rules.specs.Games.{state-count, input-count, reply-count, state-of, rules-moves, rules-goals}
+use Rattle.rules.specs.Games.{state-count, input-count, reply-count, state-from, rules-moves, rules-goals}
 use Rattle.rules.specs.Rows.{rows-hold}
 
-pub pow-at-most : (i j : ℕ) → i ≤ j → 2 ^ i ≤ 2 ^ j
-pow-at-most i j l =
-    ⊎-elim (λ (same : i ≡ j). subst (λ (k : ℕ). 2 ^ i ≤ 2 ^ k) same (omega arith))
-    (λ (other : i ≡ j → ⊥). omega (arith, pow-below i j (omega (arith, l, other)))) (cases-eq i j)
-
 -- The state of an input and a reply is one of the game's.
-pub state-inside : (bs : List ℕ) (x y : ℕ) → x < input-count bs → y < reply-count bs → state-of bs x y < state-count bs
+pub state-inside : (bs : List ℕ) (x y : ℕ) → x < input-count bs → y < reply-count bs → state-from bs x y < state-count bs
 state-inside bs x y l m =
     omega (arith, mul-add-lt y (input-count bs) x (reply-count bs) m l, pow-add 2 (input-bits-of bs) (output-bits-of bs))
-
--- What two tests and another say of the two numbers tested.
-both-inside : (a b c d : ℕ) (f : Bool) → (ltb a b && (ltb c d && f)) ≡ true → (a < b) × (c < d)
-both-inside a b c d f e = let t = and-parts _ _ e in (ltb-true _ _ (t .0), ltb-true _ _ (and-parts _ _ (t .1) .0))
 
 module _ (bs : List ℕ) (s : Sound Rules bs) where
   pub few-inputs : input-bits-of bs ≤ 6
   few-inputs = at-most Rules bs s 0 (omega arith)
 
-  pub few-outputs : output-bits-of bs ≤ 6
+  few-outputs : output-bits-of bs ≤ 6
   few-outputs = at-most Rules bs s 1 (omega arith)
 
   pub few-signals : state-bits-of bs ≤ 10
   few-signals = ltb-false 10 (state-bits-of bs) (few-bits Rules bs s 1 (omega arith))
 
   -- The state of an input and a reply fits two bytes.
-  pub state-small : (x y : ℕ) → x < input-count bs → y < reply-count bs → state-of bs x y < 1024
+  pub state-small : (x y : ℕ) → x < input-count bs → y < reply-count bs → state-from bs x y < 1024
   state-small x y l m = omega (arith, state-inside bs x y l m, pow-at-most (state-bits-of bs) 10 few-signals)
 
   -- A reply that leads somewhere is one of the game's, and so is where it leads.
@@ -50,23 +41,15 @@ module _ (bs : List ℕ) (s : Sound Rules bs) where
       (q x y p : ℕ) → rules-moves bs .leads q x y ≡ Some p →
       ((q < state-count bs) × (x < input-count bs) × (y < reply-count bs)) × (p < state-count bs)
   legal q x y p e =
-      go (ltb q (state-count bs) && (ltb x (input-count bs) && (ltb y (reply-count bs) && rows-hold bs 1 (Step q (state-of bs x y))))) refl e
+      let led = given-where (ltb q (state-count bs) && _) (Some (state-from bs x y)) p e in
+      let t = and-parts _ _ (led .0) in
+      let v = and-parts _ _ (t .1) in
+      let a = ltb-true _ _ (v .0) in
+      let b = ltb-true _ _ (and-parts _ _ (v .1) .0) in
+      ((ltb-true _ _ (t .0), a, b), subst (λ (n : ℕ). n < state-count bs) (named (led .1)) (state-inside bs x y a b))
     where
-      named : Some (state-of bs x y) ≡ Some p → state-of bs x y ≡ p
-      named e = cc
-
-      go :
-          (b : Bool) →
-          (ltb q (state-count bs) && (ltb x (input-count bs) && (ltb y (reply-count bs) && rows-hold bs 1 (Step q (state-of bs x y))))) ≡ b →
-          cond b (Some (state-of bs x y)) None ≡ Some p →
-          ((q < state-count bs) × (x < input-count bs) × (y < reply-count bs)) × (p < state-count bs)
-      go true f u =
-          let t = and-parts _ _ f in
-          let v = and-parts _ _ (t .1) in
-          let a = ltb-true _ _ (v .0) in
-          let b = ltb-true _ _ (and-parts _ _ (v .1) .0) in
-          ((ltb-true _ _ (t .0), a, b), subst (λ (n : ℕ). n < state-count bs) (named u) (state-inside bs x y a b))
-      go false f u = let z : _≡_ {A = ℕ} 0 1 = cc in absurd (omega arith)
+      named : Some (state-from bs x y) ≡ Some p → state-from bs x y ≡ p
+      named h = cc
 
   pub lawful-moves : LawfulMoves (rules-moves bs)
   lawful-moves = record {

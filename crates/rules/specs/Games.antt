@@ -29,8 +29,8 @@ abbrev pub reply-count : List ℕ → ℕ
 reply-count bs = 2 ^ output-bits-of bs
 
 -- The state in which the input signals are as in input x, and the output signals as in reply y.
-abbrev pub state-of : List ℕ → ℕ → ℕ → ℕ
-state-of bs x y = x + input-count bs * y
+abbrev pub state-from : List ℕ → ℕ → ℕ → ℕ
+state-from bs x y = x + input-count bs * y
 
 -- The moves that rules spell. Input x is open at q if every row of the environment, in section 0, holds at q and x: its masks for
 -- the next state name input signals alone. Reply y to it leads to the state of both, if every row of the controller, in section 1,
@@ -43,8 +43,8 @@ rules-moves bs = record {
   opened = λ q x. ltb q (state-count bs) && (ltb x (input-count bs) && rows-hold bs 0 (Step q x));
   leads = λ q x y.
       cond
-      (ltb q (state-count bs) && (ltb x (input-count bs) && (ltb y (reply-count bs) && rows-hold bs 1 (Step q (state-of bs x y)))))
-      (Some (state-of bs x y)) None;
+      (ltb q (state-count bs) && (ltb x (input-count bs) && (ltb y (reply-count bs) && rows-hold bs 1 (Step q (state-from bs x y)))))
+      (Some (state-from bs x y)) None;
 }
 
 -- The goals that rules spell: a state is in a set if every row of that set holds, assumptions in section 2 and guarantees in
@@ -61,4 +61,4 @@ rules-goals bs = record {
 -- The rows of the environment ask nothing of the reply: whatever reply follows an input, they hold at the state of both exactly if
 -- they hold at the input alone.
 abbrev pub Inputs-alone : List ℕ → Type 0
-Inputs-alone bs = (q x y : ℕ) → x < input-count bs → rows-hold bs 0 (Step q (state-of bs x y)) ≡ rows-hold bs 0 (Step q x)
+Inputs-alone bs = (q x y : ℕ) → x < input-count bs → rows-hold bs 0 (Step q (state-from bs x y)) ≡ rows-hold bs 0 (Step q x)

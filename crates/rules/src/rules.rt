@@ -3,9 +3,8 @@ ghost use mathlib.Core.Path.{_≡_};
 ghost use mathlib.Core.Bool.{true};
 ghost use Prim.Native.Nat.{_^_, _≤_};
 ghost use Rattle.image.specs.Bytes.{number-at};
-ghost use Rattle.image.specs.Format.{input-bits-of, output-bits-of, state-bits-of};
 ghost use Rattle.image.specs.Opening.{bytes-as};
-ghost use Rattle.rules.specs.Games.{is-rules, rules-moves, rules-goals, Inputs-alone};
+ghost use Rattle.rules.specs.Games.{is-rules, state-count, input-count, reply-count, rules-moves, rules-goals, Inputs-alone};
 ghost use Rattle.rules.specs.Rows.{rows-hold};
 use crate::row::Question;
 use crate::row::Rows;
@@ -59,28 +58,19 @@ impl<'a> Rules<'a> {
         number(self.bytes, at)
     }
 
-    // How many input signals there are.
-    fn input_bits(&self) -> u16
-        ensures value { λ r. ⌜ r ≡ input-bits-of (now (now (self .entry) .bytes)) ⌝ }
-        ensures few { λ r. ⌜ r ≤ 6 ⌝ }
+    // How many states, inputs and replies there are.
+    fn counts(&self) -> Counts
+        ensures states { λ r. ⌜ r .states ≡ state-count (now (now (self .entry) .bytes)) ⌝ }
+        ensures inputs { λ r. ⌜ r .inputs ≡ input-count (now (now (self .entry) .bytes)) ⌝ }
+        ensures replies { λ r. ⌜ r .replies ≡ reply-count (now (now (self .entry) .bytes)) ⌝ }
     {
-        self.header(INPUT_BITS)
-    }
-
-    // How many output signals there are.
-    fn output_bits(&self) -> u16
-        ensures value { λ r. ⌜ r ≡ output-bits-of (now (now (self .entry) .bytes)) ⌝ }
-        ensures few { λ r. ⌜ r ≤ 6 ⌝ }
-    {
-        self.header(OUTPUT_BITS)
-    }
-
-    // How many signals there are.
-    fn state_bits(&self) -> u16
-        ensures value { λ r. ⌜ r ≡ state-bits-of (now (now (self .entry) .bytes)) ⌝ }
-        ensures few { λ r. ⌜ r ≤ 10 ⌝ }
-    {
-        self.input_bits() + self.output_bits()
+        let input_bits = self.header(INPUT_BITS);
+        let output_bits = self.header(OUTPUT_BITS);
+        Counts {
+            states: two_to(input_bits + output_bits),
+            inputs: two_to(input_bits),
+            replies: two_to(output_bits),
+        }
     }
 
     // Whether every row of a section holds.
@@ -89,6 +79,13 @@ impl<'a> Rules<'a> {
     {
         Rows::of(self.bytes, pair).hold(asked)
     }
+}
+
+#[derive(Clone, Copy)]
+struct Counts {
+    states: u16,
+    inputs: u16,
+    replies: u16,
 }
 
 // How many choices there are of so many signals.
@@ -105,19 +102,20 @@ pub impl<'a> HasMoves for Rules<'a> as RulesHasMoves {
 
 pub impl<'a> Moves for Rules<'a> as RulesMoves {
     fn states(&self) -> u16 {
-        two_to(self.state_bits())
+        self.counts().states
     }
 
     fn inputs(&self) -> u16 {
-        two_to(self.input_bits())
+        self.counts().inputs
     }
 
     fn replies(&self) -> u16 {
-        two_to(self.output_bits())
+        self.counts().replies
     }
 
     fn is_open(&self, state: u16, input: u16) -> bool {
-        if state >= self.states() || input >= self.inputs() {
+        let counts = self.counts();
+        if state >= counts.states || input >= counts.inputs {
             return false;
         }
         let step = Question::Step {
@@ -128,11 +126,11 @@ pub impl<'a> Moves for Rules<'a> as RulesMoves {
     }
 
     fn leads(&self, state: u16, input: u16, reply: u16) -> Next {
-        let inputs = self.inputs();
-        if state >= self.states() || input >= inputs || reply >= self.replies() {
+        let counts = self.counts();
+        if state >= counts.states || input >= counts.inputs || reply >= counts.replies {
             return Next::Barred;
         }
-        let next = input + inputs * reply;
+        let next = input + counts.inputs * reply;
         let step = Question::Step {
             current: state,
             next,

@@ -13,12 +13,9 @@ use Rattle.std.proofs.shelf.Bits.{mul-add-lt}
 use Rattle.arena.specs.Game.{LawfulMoves, LawfulGoals}
 use Rattle.image.specs.declared.kind.Kind.the-variants.{Table}
 use Rattle.image.specs.Format.{states-of, inputs-of, replies-of, section-at, section-size, table-sizes}
+use Rattle.image.proofs.Numbers.{both-inside, given-where}
 use Rattle.image.proofs.Sounding.{Sound, at-least, at-most, sized, inside, cell-allowed}
 use Rattle.table.specs.Tables.{target-at, target-of, table-moves, table-goals}
-
--- What two tests and a flag say of the two numbers tested.
-both-inside : (a b c d : ℕ) (f : Bool) → (ltb a b && (ltb c d && f)) ≡ true → (a < b) × (c < d)
-both-inside a b c d f e = let t = and-parts _ _ e in (ltb-true _ _ (t .0), ltb-true _ _ (and-parts _ _ (t .1) .0))
 
 module _ (bs : List ℕ) (s : Sound Table bs) where
   -- Each section has its length.
@@ -61,19 +58,14 @@ module _ (bs : List ℕ) (s : Sound Table bs) where
   legal :
       (q x y p : ℕ) → table-moves bs .leads q x y ≡ Some p →
       ((q < states-of bs) × (x < inputs-of bs) × (y < replies-of bs)) × (p < states-of bs)
-  legal q x y p e = go (ltb q (states-of bs) && (ltb x (inputs-of bs) && ltb y (replies-of bs))) refl e
-    where
-      go :
-          (b : Bool) → (ltb q (states-of bs) && (ltb x (inputs-of bs) && ltb y (replies-of bs))) ≡ b →
-          cond b (target-of (target-at bs q x y)) None ≡ Some p →
-          ((q < states-of bs) × (x < inputs-of bs) × (y < replies-of bs)) × (p < states-of bs)
-      go true f u =
-          let t = and-parts _ _ f in
-          let a = ltb-true _ _ (t .0) in
-          let b = ltb-true _ _ (and-parts _ _ (t .1) .0) in
-          let c = ltb-true _ _ (and-parts _ _ (t .1) .1) in
-          ((a, b, c), target-lawful q x y p a b c u)
-      go false f u = let z : _≡_ {A = ℕ} 0 1 = cc in absurd (omega arith)
+  legal q x y p e =
+      let led = given-where (ltb q (states-of bs) && _) (target-of (target-at bs q x y)) p e in
+      let t = and-parts _ _ (led .0) in
+      let v = and-parts _ _ (t .1) in
+      let a = ltb-true _ _ (t .0) in
+      let b = ltb-true _ _ (v .0) in
+      let c = ltb-true _ _ (v .1) in
+      ((a, b, c), target-lawful q x y p a b c (led .1))
 
   pub lawful-moves : LawfulMoves (table-moves bs)
   lawful-moves = record {

@@ -1,18 +1,16 @@
-use mathlib.Core.Path.{_≡_, refl, sym, subst, _∙_}
+use mathlib.Core.Path.{_≡_, refl, sym, _∙_}
 use mathlib.Core.Bool.{Bool, true, false}
-use mathlib.Core.Logic.{⊎-elim}
 use Prim.Native.Nat.{ℕ, _/_, _^_, _<_, _≤_}
 use native.Mathlib.Omega.{arith}
 use lib.Dec.{eqb, ltb}
-use Rattle.std.proofs.shelf.Bits.{pow-pos, pow-below, div-below, le-div}
-use Rattle.std.proofs.shelf.Tests.{cases-eq, ltb-true, ltb-false, lt-ltb, le-leb, eq-eqb, ne-eqb}
+use Rattle.std.proofs.shelf.Bits.{pow-pos, div-below, le-div}
+use Rattle.std.proofs.shelf.Tests.{ltb-true, ltb-false, lt-ltb, le-leb, eq-eqb, ne-eqb}
+use Rattle.image.proofs.Numbers.{pow-at-most}
 use Rattle.image.proofs.cell.has_only_bits.Needs as need
 
 -- From 16 bits on every number of two bytes fits.
 wide-enough : (n b : ℕ) → n < 65536 → 16 ≤ b → n < 2 ^ b
-wide-enough n b l w =
-    ⊎-elim (λ (same : 16 ≡ b). subst (λ (x : ℕ). n < 2 ^ x) same l)
-    (λ (other : 16 ≡ b → ⊥). omega (arith, l, pow-below 16 b (omega (arith, w, other)))) (cases-eq 16 b)
+wide-enough n b l w = omega (arith, l, pow-at-most 16 b w)
 
 pub returns-then-bits-ge16 : need.returns-then-bits-ge16
 returns-then-bits-ge16 c =

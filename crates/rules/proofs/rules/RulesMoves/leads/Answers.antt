@@ -10,11 +10,11 @@ use Rattle.rules.proofs.rules.RulesMoves.leads.Needs as need
 pub mul-next : need.mul-next
 mul-next c =
     let bs = c .args .self .now .bytes .now in
-    let same : c .inputs-inputs .result * c .args .reply ≡ input-count bs * c .args .reply = cc in
+    let same : c .counts-counts .result .inputs * c .args .reply ≡ input-count bs * c .args .reply = cc in
     omega (arith, same, state-small bs (sound Rules bs (c .args .self .now .lawful)) (c .args .input) (c .args .reply) (omega arith) (omega arith))
 
 pub add-next : need.add-next
 add-next c =
     let bs = c .args .self .now .bytes .now in
-    let same : c .inputs-inputs .result * c .args .reply ≡ input-count bs * c .args .reply = cc in
+    let same : c .counts-counts .result .inputs * c .args .reply ≡ input-count bs * c .args .reply = cc in
     omega (arith, same, state-small bs (sound Rules bs (c .args .self .now .lawful)) (c .args .input) (c .args .reply) (omega arith) (omega arith))
