@@ -1,11 +1,11 @@
 -- What holds of the bytes of rules, and that the game they spell is lawful.
-use mathlib.Core.Path.{_≡_, refl, subst}
-use mathlib.Core.Bool.{Bool, true, false, cond, _&&_}
+use mathlib.Core.Path.{_≡_, subst}
+use mathlib.Core.Bool.{_&&_}
 use mathlib.Core.List.{List}
-use Prim.Native.Nat.{ℕ, _^_, _<_, _≤_}
+use Prim.Native.Nat.{ℕ, _<_, _≤_}
 use native.Mathlib.Omega.{arith}
 use lib.Dec.{ltb}
-use Rattle.std.specs.declared.option.Option.the-variants.{Some, None}
+use Rattle.std.specs.declared.option.Option.the-variants.{Some}
 use Rattle.std.proofs.shelf.Bits.{pow-pos, pow-add, mul-add-lt}
 use Rattle.std.proofs.shelf.Tests.{and-parts, ltb-true, ltb-false}
 use Rattle.arena.specs.Game.{LawfulMoves, LawfulGoals}
@@ -13,9 +13,7 @@ use Rattle.image.specs.declared.kind.Kind.the-variants.{Rules}
 use Rattle.image.specs.Format.{input-bits-of, output-bits-of, state-bits-of}
 use Rattle.image.proofs.Numbers.{pow-at-most, both-inside, given-where}
 use Rattle.image.proofs.Sounding.{Sound, at-least, at-most, few-bits}
-use Rattle.rules.specs.declared.row.Question.the-variants.{Step}
 use Rattle.rules.specs.Games.{state-count, input-count, reply-count, state-from, rules-moves, rules-goals}
-use Rattle.rules.specs.Rows.{rows-hold}
 
 -- The state of an input and a reply is one of the game's.
 pub state-inside : (bs : List ℕ) (x y : ℕ) → x < input-count bs → y < reply-count bs → state-from bs x y < state-count bs
