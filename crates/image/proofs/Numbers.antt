@@ -10,6 +10,7 @@ use Rattle.std.specs.declared.option.Option.the-variants.{Some, None}
 use Rattle.std.proofs.shelf.Bits.{pow-below}
 use Rattle.std.proofs.shelf.Tests.{and-parts, cases-eq, ltb-true}
 
+-- A power of two is at most one with a greater exponent.
 pub pow-at-most : (i j : ℕ) → i ≤ j → 2 ^ i ≤ 2 ^ j
 pow-at-most i j l =
     ⊎-elim (λ (same : i ≡ j). subst (λ (k : ℕ). 2 ^ i ≤ 2 ^ k) same (omega arith))

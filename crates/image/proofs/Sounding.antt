@@ -72,9 +72,10 @@ all-granted j k bs e =
     let same : j ≡ k = cc in
     subst (λ (i : Kind). Sound i bs) same (record { numbers = n .0; ordered = p .0; sizes = s .0; values = v .0 })
 
-pub judged-kind : (k : Kind) (bs : List ℕ) → is-image k bs ≡ true → judged bs ≡ Ok k
+-- What is an image of a kind is judged so, and what is judged so is one.
+judged-of-image : (k : Kind) (bs : List ℕ) → is-image k bs ≡ true → judged bs ≡ Ok k
 unfolding is-image
-judged-kind k bs e = go k (judged bs) e
+judged-of-image k bs e = go k (judged bs) e
   where
     go : (k : Kind) (r : Result Kind Refusal) → says-kind k r ≡ true → r ≡ Ok k
     go Table (Ok Table) h = refl
@@ -83,16 +84,16 @@ judged-kind k bs e = go k (judged bs) e
     go Rules (Ok Rules) h = refl
     go k (Err x) h = absurd (false≢true h)
 
-pub kind-judged : (k : Kind) (bs : List ℕ) → judged bs ≡ Ok k → is-image k bs ≡ true
+pub image-of-judged : (k : Kind) (bs : List ℕ) → judged bs ≡ Ok k → is-image k bs ≡ true
 unfolding is-image
-kind-judged k bs e = ap (says-kind k) e ∙ same k
+image-of-judged k bs e = ap (says-kind k) e ∙ same k
   where
     same : (k : Kind) → same-kind k k ≡ true
     same Table = refl
     same Rules = refl
 
 pub sound : (k : Kind) (bs : List ℕ) → is-image k bs ≡ true → Sound k bs
-sound k bs e = by-length (right-length bs) (judged-kind k bs e)
+sound k bs e = by-length (right-length bs) (judged-of-image k bs e)
   where
     by-kind : (o : Option Kind) → judged-as o bs ≡ Ok k → Sound k bs
     by-kind None h = let z : _≡_ {A = ℕ} 0 1 = cc in absurd (omega arith)

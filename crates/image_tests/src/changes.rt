@@ -15,6 +15,7 @@ pub(crate) fn changed<const N: usize>(
 ) -> Result<[u8; N], Fail> {
     let mut changed = image;
     check(at < N)?;
+    // what `check` found is not known to the prover
     if at < N {
         changed[at] = byte;
     }

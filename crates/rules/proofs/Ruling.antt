@@ -1,8 +1,8 @@
 -- What holds of the bytes of rules, and that the game they spell is lawful.
-use mathlib.Core.Path.{_≡_, subst}
+use mathlib.Core.Path.{_≡_, sym, subst}
 use mathlib.Core.Bool.{_&&_}
 use mathlib.Core.List.{List}
-use Prim.Native.Nat.{ℕ, _<_, _≤_}
+use Prim.Native.Nat.{ℕ, _+_, _*_, _<_, _≤_}
 use native.Mathlib.Omega.{arith}
 use lib.Dec.{ltb}
 use Rattle.std.specs.declared.option.Option.the-variants.{Some}
@@ -16,7 +16,7 @@ use Rattle.image.proofs.Sounding.{Sound, at-least, at-most, few-bits}
 use Rattle.rules.specs.Games.{state-count, input-count, reply-count, state-from, rules-moves, rules-goals}
 
 -- The state of an input and a reply is one of the game's.
-pub state-inside : (bs : List ℕ) (x y : ℕ) → x < input-count bs → y < reply-count bs → state-from bs x y < state-count bs
+state-inside : (bs : List ℕ) (x y : ℕ) → x < input-count bs → y < reply-count bs → state-from bs x y < state-count bs
 state-inside bs x y l m =
     omega (arith, mul-add-lt y (input-count bs) x (reply-count bs) m l, pow-add 2 (input-bits-of bs) (output-bits-of bs))
 
@@ -30,9 +30,11 @@ module _ (bs : List ℕ) (s : Sound Rules bs) where
   pub few-signals : state-bits-of bs ≤ 10
   few-signals = ltb-false 10 (state-bits-of bs) (few-bits Rules bs s 1 (omega arith))
 
-  -- The state of an input and a reply fits two bytes.
-  pub state-small : (x y : ℕ) → x < input-count bs → y < reply-count bs → state-from bs x y < 1024
-  state-small x y l m = omega (arith, state-inside bs x y l m, pow-at-most (state-bits-of bs) 10 few-signals)
+  -- The state of an input and a reply, by the counts that were read, fits two bytes.
+  pub state-small : (n r x y : ℕ) → n ≡ input-count bs → r ≡ reply-count bs → x < n → y < r → x + n * y < 1024
+  state-small n r x y e f l m =
+      subst (λ (k : ℕ). x + k * y < 1024) (sym e)
+      (omega (arith, state-inside bs x y (omega (arith, e, l)) (omega (arith, f, m)), pow-at-most (state-bits-of bs) 10 few-signals))
 
   -- A reply that leads somewhere is one of the game's, and so is where it leads.
   legal :

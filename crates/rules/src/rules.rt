@@ -58,7 +58,7 @@ impl<'a> Rules<'a> {
         number(self.bytes, at)
     }
 
-    // How many states, inputs and replies there are.
+    // The counts, by each of the two header numbers read once.
     fn counts(&self) -> Counts
         ensures states { λ r. ⌜ r .states ≡ state-count (now (now (self .entry) .bytes)) ⌝ }
         ensures inputs { λ r. ⌜ r .inputs ≡ input-count (now (now (self .entry) .bytes)) ⌝ }
@@ -81,6 +81,7 @@ impl<'a> Rules<'a> {
     }
 }
 
+// How many states, inputs and replies there are.
 #[derive(Clone, Copy)]
 struct Counts {
     states: u16,

@@ -1,23 +1,18 @@
-use mathlib.Core.Path.{sym}
 use native.Mathlib.Omega.{arith}
-use borrow.Author.Count.{below-more}
-use Rattle.image.proofs.Placing.{cell-told, bad-cell-found, no-bad-cell}
+use Rattle.image.proofs.Placing.{bad-cell-found, cell-passed, no-bad-cell}
 use Rattle.image.proofs.judgement.bad_cell.Needs as need
 
 pub returns-then-is-bad : need.returns-then-is-bad
 returns-then-is-bad c =
     bad-cell-found (c .args .kind) (c .args .bytes .now) (c .args .pair) _ _ _ (c .read-section .ensures .begins)
-    (c .read-section .ensures .sized) (c .width-width .ensures) (c .loop-cell .cell) (c .loop-cell-test .taken) (c .loop-cell .inv)
-    (sym
-    (cell-told (c .args .kind) (c .args .bytes .now) (c .args .pair) _ _ _ (c .read-section .ensures .begins)
-    (c .read-section .ensures .sized) (c .width-width .ensures) (c .loop-cell .cell) _ _ (c .cell .ensures) (c .if-is-bad .ensures tt)))
+    (c .read-section .ensures .sized) (c .width-width .ensures) (c .loop-cell .cell) _ (c .loop-cell-test .taken) (c .loop-cell .inv)
+    (c .cell .ensures) (c .if-is-bad .ensures tt)
 
 pub loop-cell-again : need.loop-cell-again
 loop-cell-again c =
-    below-more _ _ (c .loop-cell .inv)
-    (sym
-    (cell-told (c .args .kind) (c .args .bytes .now) (c .args .pair) _ _ _ (c .read-section .ensures .begins)
-    (c .read-section .ensures .sized) (c .width-width .ensures) (c .loop-cell .cell) _ _ (c .cell .ensures) (c .if-is-bad .ensures tt)))
+    cell-passed (c .args .kind) (c .args .bytes .now) (c .args .pair) _ _ _ (c .read-section .ensures .begins)
+    (c .read-section .ensures .sized) (c .width-width .ensures) (c .loop-cell .cell) _ (c .loop-cell .inv) (c .cell .ensures)
+    (c .if-is-bad .ensures tt)
 
 pub returns : need.returns
 returns c =
