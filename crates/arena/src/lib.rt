@@ -3,6 +3,7 @@
 //! `specs/` defines games, plays, strategies and winners. An arena is a value that means one game. What it means is a ghost
 //! member of `HasMoves` and of `HasGoals`, with the law that it is lawful; `Moves` answers the questions about moves, and `Arena`
 //! those about the sets of states and the starts.
+#![tactic(auto)]
 
 ghost use Rattle.std.specs.Prelude.{◌≡◌};
 ghost use Rattle.arena.specs.Game.{GameMoves, GameGoals, LawfulMoves, LawfulGoals, starts};

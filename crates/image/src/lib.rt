@@ -2,6 +2,7 @@
 //!
 //! `judge` says whether bytes are an image and of which kind, or why they are refused. The arenas of one kind
 //! are made of a `Judged` image, and read its bytes by `number` and `Section`.
+#![tactic(auto)]
 
 mod bytes;
 mod cell;

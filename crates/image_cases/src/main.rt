@@ -1,5 +1,6 @@
 //! Answers each image of `data/` that `cases.txt` names, and compares the text with the one beside it, which was known beforehand
 //! or printed by an independent solver.
+#![tactic(auto)]
 
 use std::alloc::{AllocError, Global};
 use std::fs;

@@ -1,4 +1,5 @@
 //! Examples of images, opened and refused.
+#![tactic(auto)]
 
 #[cfg(test)]
 mod changes;

@@ -1,4 +1,5 @@
 //! Reads one image from standard input, and prints who wins each state and whether the game is realizable.
+#![tactic(auto)]
 
 use image::GREATEST_LENGTH;
 use std::io::Read;

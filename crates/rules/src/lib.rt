@@ -1,4 +1,5 @@
 //! The game that rules over signals spell, as an arena.
+#![tactic(auto)]
 
 mod row;
 mod rules;

@@ -1,4 +1,5 @@
 //! The game that a table spells, as an arena.
+#![tactic(auto)]
 
 mod table;
 mod worked;

@@ -4,6 +4,7 @@
 //!
 //! The controller's states are νZ ⋂_j μY ⋃_i νX of (G_j ∩ CPre Z) ∪ CPre Y ∪ (complement of A_i ∩ CPre X), where G_j and A_i
 //! are the guarantee and assumption sets, and CPre S are the states at which every open input has a legal reply into S.
+#![tactic(auto)]
 
 ghost use Rattle.std.specs.Prelude.{◌≡◌, IfOk, vec_len};
 

@@ -1,4 +1,5 @@
 //! From the bytes of an image to what is told of it.
+#![tactic(auto)]
 
 mod answer;
 mod text;

@@ -3,10 +3,10 @@ use Rattle.image.specs.Judging.{number_bad, number_offset}
 use Rattle.image.proofs.Searching.{found, not_found}
 use Rattle.image.proofs.judgement.bad_number.Goals as goal
 
-pub returns-then-number-is-bad : goal.returns-then-number-is-bad
-returns-then-number-is-bad c =
+pub returns-then-number_is_bad : goal.returns-then-number_is_bad
+returns-then-number_is_bad c =
     found (number_bad c.args.kind c.args.bytes.now) number_offset 5 c.loop-h.h c.loop-h-test.true c.loop-h.invariant
-    (sym c.if-number-is-bad.ensures)
+    (sym c.if-number_is_bad.ensures)
 
 pub returns : goal.returns
 returns c =

@@ -20,8 +20,8 @@ pub loop-state-preserved : goal.loop-state-preserved
 loop-state-preserved c =
     line_more (string_bytes c.loop-state.lines) _ c.args.winners.now c.loop-state.state _ c.loop-state-test.true
     c.loop-state.invariant
-    (c.in-ok-push-str.ensures.bytes
-    ∙ ap (λ (x : List ℕ). string_bytes c.loop-state.lines ++ x) (c.as-str.ensures.value ∙ c.in-ok-state-line.ensures))
+    (c.in_ok-push_str.ensures.bytes
+    ∙ ap (λ (x : List ℕ). string_bytes c.loop-state.lines ++ x) (c.as_str.ensures.value ∙ c.in_ok-state_line.ensures))
 
 pub returns : goal.returns
 returns c =

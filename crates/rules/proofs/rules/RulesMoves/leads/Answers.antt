@@ -4,8 +4,8 @@ use Rattle.image.proofs.Sounding.{sound}
 use Rattle.rules.specs.Ruling.{state_small}
 use Rattle.rules.proofs.rules.RulesMoves.leads.Goals as goal
 
-pub overflow-mul-next : goal.overflow-mul-next
-overflow-mul-next c =
+pub overflow_mul-next : goal.overflow_mul-next
+overflow_mul-next c =
     let bs = c.args.self.now.bytes.now in
     let counts = c.counts-counts.ensures in
     omega (
@@ -14,8 +14,8 @@ overflow-mul-next c =
           c.if-input-counts.false c.if-reply-counts.false,
     )
 
-pub overflow-add-next : goal.overflow-add-next
-overflow-add-next c =
+pub overflow_add-next : goal.overflow_add-next
+overflow_add-next c =
     let bs = c.args.self.now.bytes.now in
     let counts = c.counts-counts.ensures in
     omega (

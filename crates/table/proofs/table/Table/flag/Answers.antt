@@ -7,7 +7,7 @@ use Rattle.table.proofs.table.Table.flag.Goals as goal
 pub bounds-self-at : goal.bounds-self-at
 bounds-self-at c =
     let bs = c.args.self.now.bytes.now in
-    let place : c.cell-index.result ≡ c.args.row * c.args.columns + c.args.column = cc in
+    let place : c.cell_index.result ≡ c.args.row * c.args.columns + c.args.column = cc in
     omega (
       arith,
       place,
