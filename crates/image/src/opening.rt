@@ -9,7 +9,7 @@ use crate::kind::Kind;
 pub struct Judged<'a> {
     kind: Kind,
     bytes: &'a [u8],
-    ghost lawful: { is_image kind bytes.now ≡ true },
+    pub ghost lawful: { is_image kind bytes.now ≡ true },
 }
 
 impl<'a> Judged<'a> {

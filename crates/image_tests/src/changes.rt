@@ -10,10 +10,7 @@ pub(crate) fn changed<const N: usize>(
 ) -> [u8; N] {
     let mut changed = image;
     assert!(rt; at < N);
-    // what `check` found is not known to the prover
-    if at < N {
-        changed[at] = byte;
-    }
+    changed[at] = byte;
     changed
 }
 

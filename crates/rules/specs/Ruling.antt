@@ -1,5 +1,5 @@
 -- What holds of the bytes of rules, and that the game they spell is lawful.
-use Rattle.std.specs.Prelude.{◌≡◌, ℕ, ◌+◌, ◌*◌, ◌<◌, ◌≤◌, ◌&&◌, List, Some, nat_lt}
+use Rattle.std.specs.Prelude.{◌≡◌, ℕ, ◌+◌, ◌*◌, ◌<◌, ◌≤◌, true, ◌&&◌, List, Some, nat_lt}
 use Rattle.std.proofs.Common.{sym, subst, arith}
 use Rattle.std.proofs.lemmas.Nat.{pow_pos, pow-add, mul-add-lt}
 use Rattle.std.proofs.lemmas.Bool.{and_parts, ltb-true, ltb-false}
@@ -7,8 +7,8 @@ use Rattle.arena.specs.Game.{LawfulMoves, LawfulGoals}
 use Rattle.image.specs.declared.kind.Kind.TheVariants.{Rules}
 use Rattle.image.specs.Format.{input_bits_of, output_bits_of, state_bits_of}
 use Rattle.image.proofs.Numbers.{pow_at_most, both_inside, given_where}
-use Rattle.image.proofs.Sounding.{Sound, at_least, at_most, few_bits}
-use Rattle.rules.specs.Games.{state_count, input_count, reply_count, state_from, rules_moves, rules_goals}
+use Rattle.image.proofs.Sounding.{Sound, sound, at_least, at_most, few_bits}
+use Rattle.rules.specs.Games.{is_rules, state_count, input_count, reply_count, state_from, rules_moves, rules_goals}
 
 -- The state of an input and a reply is one of the game's.
 state_inside : (bs : List ℕ) (x y : ℕ) → x < input_count bs → y < reply_count bs → state_from bs x y < state_count bs
@@ -69,3 +69,11 @@ module _ (bs : List ℕ) (s : Sound Rules bs) where
     guaranteed_inside = λ j q e. both_inside j _ q _ _ e;
     starts_inside = λ q e. ltb-true _ _ (and_parts _ _ e).0;
   }
+
+-- Bytes that are judged to be rules spell lawful moves.
+pub rules_moves_lawful : (bs : List ℕ) → is_rules bs ≡ true → LawfulMoves (rules_moves bs)
+rules_moves_lawful bs e = lawful_moves bs (sound Rules bs e)
+
+-- And lawful goals.
+pub rules_goals_lawful : (bs : List ℕ) → is_rules bs ≡ true → LawfulGoals (state_count bs) (rules_goals bs)
+rules_goals_lawful bs e = lawful_goals bs (sound Rules bs e)

@@ -1,11 +1,9 @@
 ghost use Rattle.std.specs.Prelude.{◌≡◌, ◌^◌, ◌≤◌, true};
 ghost use Rattle.image.specs.Bytes.{number_at};
-ghost use Rattle.image.specs.declared.kind.Kind.TheVariants as Kinds;
 ghost use Rattle.image.specs.Opening.{bytes_as};
 ghost use Rattle.rules.specs.Games.{is_rules, state_count, input_count, reply_count, rules_moves, rules_goals, InputsAlone};
 ghost use Rattle.rules.specs.Rows.{rows_hold};
-ghost use Rattle.image.proofs.Sounding.{sound};
-ghost use Rattle.rules.specs.Ruling.{lawful_moves, lawful_goals};
+ghost use Rattle.rules.specs.Ruling.{rules_moves_lawful, rules_goals_lawful};
 
 use crate::row::{Question, Rows};
 use arena::{Arena, HasGoals, HasMoves, Moves, Next};
@@ -88,7 +86,7 @@ fn two_to(bits: u16) -> u16
 impl<'a> HasMoves for Rules<'a> {
     ghost moves = { λ t. rules_moves t.bytes.now };
 
-    ghost lawful = { λ t. lawful_moves t.bytes.now (sound Kinds.Rules t.bytes.now t.lawful) };
+    ghost lawful = { λ t. rules_moves_lawful t.bytes.now t.lawful };
 }
 
 impl<'a> Moves for Rules<'a> {
@@ -137,7 +135,7 @@ impl<'a> Moves for Rules<'a> {
 impl<'a> HasGoals for Rules<'a> {
     ghost goals = { λ t. rules_goals t.bytes.now };
 
-    ghost lawful = { λ t. lawful_goals t.bytes.now (sound Kinds.Rules t.bytes.now t.lawful) };
+    ghost lawful = { λ t. rules_goals_lawful t.bytes.now t.lawful };
 }
 
 impl<'a> Arena for Rules<'a> {

@@ -7,8 +7,8 @@ use Rattle.arena.specs.Game.{LawfulMoves, LawfulGoals}
 use Rattle.image.specs.declared.kind.Kind.TheVariants.{Table}
 use Rattle.image.specs.Format.{states_of, inputs_of, replies_of, section_at, section_size, table_sizes}
 use Rattle.image.proofs.Numbers.{both_inside, given_where}
-use Rattle.image.proofs.Sounding.{Sound, at_least, at_most, sized, inside, cell_allowed}
-use Rattle.table.specs.Tables.{target_at, target_of, table_moves, table_goals}
+use Rattle.image.proofs.Sounding.{Sound, sound, at_least, at_most, sized, inside, cell_allowed}
+use Rattle.table.specs.Tables.{is_table, target_at, target_of, table_moves, table_goals}
 
 module _ (bs : List ℕ) (s : Sound Table bs) where
   -- Each section has its length.
@@ -83,3 +83,11 @@ module _ (bs : List ℕ) (s : Sound Table bs) where
     guaranteed_inside = λ j q e. both_inside j _ q _ _ e;
     starts_inside = λ q e. ltb-true _ _ (and_parts _ _ e).0;
   }
+
+-- Bytes that are judged to be a table spell lawful moves.
+pub table_moves_lawful : (bs : List ℕ) → is_table bs ≡ true → LawfulMoves (table_moves bs)
+table_moves_lawful bs e = lawful_moves bs (sound Table bs e)
+
+-- And lawful goals.
+pub table_goals_lawful : (bs : List ℕ) → is_table bs ≡ true → LawfulGoals (states_of bs) (table_goals bs)
+table_goals_lawful bs e = lawful_goals bs (sound Table bs e)

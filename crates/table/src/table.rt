@@ -1,11 +1,9 @@
 ghost use Rattle.std.specs.Prelude.{◌≡◌, ◌+◌, ◌*◌, ◌^◌, ◌<◌, true, ◌&&◌, nat_lt, slice_index};
 ghost use Rattle.image.specs.Bytes.{number_at};
 ghost use Rattle.image.specs.Format.{states_of, inputs_of, replies_of, table_sizes};
-ghost use Rattle.image.specs.declared.kind.Kind.TheVariants as Kinds;
 ghost use Rattle.image.specs.Opening.{bytes_as};
 ghost use Rattle.table.specs.Tables.{is_table, table_moves, table_goals, flag_at, target_at};
-ghost use Rattle.image.proofs.Sounding.{sound};
-ghost use Rattle.table.specs.Tabling.{lawful_moves, lawful_goals};
+ghost use Rattle.table.specs.Tabling.{table_moves_lawful, table_goals_lawful};
 
 use arena::{Arena, HasGoals, HasMoves, Moves, Next};
 use image::{
@@ -77,7 +75,7 @@ fn cell_index(row: usize, columns: u16, column: u16) -> usize
 impl<'a> HasMoves for Table<'a> {
     ghost moves = { λ t. table_moves t.bytes.now };
 
-    ghost lawful = { λ t. lawful_moves t.bytes.now (sound Kinds.Table t.bytes.now t.lawful) };
+    ghost lawful = { λ t. table_moves_lawful t.bytes.now t.lawful };
 }
 
 impl<'a> Moves for Table<'a> {
@@ -111,7 +109,7 @@ impl<'a> Moves for Table<'a> {
 impl<'a> HasGoals for Table<'a> {
     ghost goals = { λ t. table_goals t.bytes.now };
 
-    ghost lawful = { λ t. lawful_goals t.bytes.now (sound Kinds.Table t.bytes.now t.lawful) };
+    ghost lawful = { λ t. table_goals_lawful t.bytes.now t.lawful };
 }
 
 impl<'a> Arena for Table<'a> {
