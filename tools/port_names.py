@@ -69,7 +69,8 @@ def main():
         sys.exit("port_names: two names fall together")
     top = pathlib.Path(".")
     code = [p for p in sorted(top.glob("crates/**/*")) if p.suffix in (".rt", ".antt") and "out" not in p.parts]
-    pages = [top / "README.md", *sorted(top.glob("docs/*.md"))]
+    # the page of the port tells the old names
+    pages = [top / "README.md", *(p for p in sorted(top.glob("docs/*.md")) if p.name != "PORT.md")]
     for path, turn in [(p, turned) for p in code] + [(p, turned_page) for p in pages]:
         old = path.read_text()
         new = turn(old)
