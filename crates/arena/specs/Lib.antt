@@ -1,5 +1,4 @@
 pub mod Game
-pub mod Next
 pub mod Play
 pub mod Winner
 pub mod Examples

@@ -1,4 +1,4 @@
-use arena::{Arena, Moves, Next};
+use arena::{Arena, Moves};
 use opened::Image;
 use rules::worked_image;
 
@@ -18,10 +18,10 @@ fn the_worked_image_answers_as_its_game(rt: HostRuntime) {
         assert_eq!(rt; rules.in_guarantee(0, state), state >= 2);
         assert_eq!(rt; rules.is_start(state), state == 0);
         for input in 0..2u16 {
-            assert_eq!(rt; rules.leads(state, input, 0), Next::To(input));
+            assert_eq!(rt; rules.leads(state, input, 0), Some(input));
             let powered = match state {
-                0..=1 => Next::To(input + 2),
-                _ => Next::Barred,
+                0..=1 => Some(input + 2),
+                _ => None,
             };
             assert_eq!(rt; rules.leads(state, input, 1), powered);
         }
@@ -38,10 +38,10 @@ fn one_controller_row() -> &'static [u8] {
 #[test]
 fn a_controller_row_bars_what_it_forbids(rt: HostRuntime) {
     let rules = Image::open(one_controller_row());
-    assert_eq!(rt; rules.leads(2, 0, 1), Next::Barred);
-    assert_eq!(rt; rules.leads(3, 1, 1), Next::Barred);
-    assert_eq!(rt; rules.leads(0, 1, 1), Next::To(3));
-    assert_eq!(rt; rules.leads(2, 1, 0), Next::To(1));
+    assert_eq!(rt; rules.leads(2, 0, 1), None);
+    assert_eq!(rt; rules.leads(3, 1, 1), None);
+    assert_eq!(rt; rules.leads(0, 1, 1), Some(3));
+    assert_eq!(rt; rules.leads(2, 1, 0), Some(1));
 }
 
 // Two input signals, one output signal, two sets of each kind, and no row.
@@ -66,7 +66,7 @@ fn without_rows_everything_is_allowed_and_in_every_set(rt: HostRuntime) {
             for reply in 0..2u16 {
                 assert_eq!(rt;
                     rules.leads(state, input, reply),
-                    Next::To(input + 4 * reply)
+                    Some(input + 4 * reply)
                 );
             }
         }
@@ -87,7 +87,7 @@ fn rows_can_close_every_input_and_leave_the_replies(rt: HostRuntime) {
     for state in 0..4 {
         for input in 0..2u16 {
             assert!(rt; !rules.is_open(state, input));
-            assert_eq!(rt; rules.leads(state, input, 1), Next::To(input + 2));
+            assert_eq!(rt; rules.leads(state, input, 1), Some(input + 2));
         }
     }
 }
@@ -112,7 +112,7 @@ fn a_row_of_zero_masks_never_holds(rt: HostRuntime) {
         assert!(rt; !rules.is_start(state));
         for input in 0..2 {
             assert!(rt; !rules.is_open(state, input));
-            assert_eq!(rt; rules.leads(state, input, 0), Next::Barred);
+            assert_eq!(rt; rules.leads(state, input, 0), None);
         }
     }
 }
@@ -139,7 +139,7 @@ fn a_signal_in_both_masks_always_holds(rt: HostRuntime) {
         );
         for input in 0..2u16 {
             assert!(rt; rules.is_open(state, input));
-            assert_eq!(rt; rules.leads(state, input, 1), Next::To(input + 2));
+            assert_eq!(rt; rules.leads(state, input, 1), Some(input + 2));
         }
     }
 }
@@ -177,9 +177,9 @@ fn every_mask_counts(rt: HostRuntime) {
             for y in 0..4u16 {
                 let legal = on(q, 2) || on(x, 1) || !on(y, 1);
                 let next = if legal {
-                    Next::To(x + 4 * y)
+                    Some(x + 4 * y)
                 } else {
-                    Next::Barred
+                    None
                 };
                 assert_eq!(rt; rules.leads(q, x, y), next);
             }
@@ -217,14 +217,14 @@ fn ten_signals_make_a_thousand_and_twenty_four_states(rt: HostRuntime) {
     assert_eq!(rt; rules.states(), 1024);
     assert_eq!(rt; rules.inputs(), 64);
     assert_eq!(rt; rules.replies(), 16);
-    assert_eq!(rt; rules.leads(1023, 63, 15), Next::To(1023));
-    assert_eq!(rt; rules.leads(0, 1, 2), Next::To(129));
+    assert_eq!(rt; rules.leads(1023, 63, 15), Some(1023));
+    assert_eq!(rt; rules.leads(0, 1, 2), Some(129));
     let rules = Image::open(four_and_six());
     assert_eq!(rt; rules.states(), 1024);
     assert_eq!(rt; rules.inputs(), 16);
     assert_eq!(rt; rules.replies(), 64);
-    assert_eq!(rt; rules.leads(1023, 15, 63), Next::To(1023));
-    assert_eq!(rt; rules.leads(0, 1, 2), Next::To(33));
+    assert_eq!(rt; rules.leads(1023, 15, 63), Some(1023));
+    assert_eq!(rt; rules.leads(0, 1, 2), Some(33));
     assert!(rt; !rules.is_start(511) && rules.is_start(512) && rules.is_start(1023));
 }
 
@@ -232,14 +232,14 @@ fn ten_signals_make_a_thousand_and_twenty_four_states(rt: HostRuntime) {
 fn nothing_is_outside_the_game(rt: HostRuntime) {
     let rules = Image::open(no_rows());
     assert!(rt; !rules.is_open(8, 0) && !rules.is_open(0, 4));
-    assert_eq!(rt; rules.leads(8, 0, 0), Next::Barred);
-    assert_eq!(rt; rules.leads(0, 4, 0), Next::Barred);
-    assert_eq!(rt; rules.leads(0, 0, 2), Next::Barred);
+    assert_eq!(rt; rules.leads(8, 0, 0), None);
+    assert_eq!(rt; rules.leads(0, 4, 0), None);
+    assert_eq!(rt; rules.leads(0, 0, 2), None);
     for number in [8, 9, 255, 256, 1024, 65535] {
         assert!(rt; !rules.is_open(number, 0) && !rules.is_open(0, number));
-        assert_eq!(rt; rules.leads(number, 0, 0), Next::Barred);
-        assert_eq!(rt; rules.leads(0, number, 0), Next::Barred);
-        assert_eq!(rt; rules.leads(0, 0, number), Next::Barred);
+        assert_eq!(rt; rules.leads(number, 0, 0), None);
+        assert_eq!(rt; rules.leads(0, number, 0), None);
+        assert_eq!(rt; rules.leads(0, 0, number), None);
         assert!(rt; !rules.in_assumption(number, 0) && !rules.in_assumption(0, number));
         assert!(rt; !rules.in_guarantee(number, 0) && !rules.in_guarantee(0, number));
         assert!(rt; !rules.is_start(number));

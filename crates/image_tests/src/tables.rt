@@ -1,4 +1,4 @@
-use arena::{Arena, Moves, Next};
+use arena::{Arena, Moves};
 use opened::Image;
 use table::worked_image;
 
@@ -16,8 +16,8 @@ fn the_worked_image_answers_as_its_game(rt: HostRuntime) {
         assert!(rt; table.in_assumption(0, state));
         assert_eq!(rt; table.in_guarantee(0, state), state == 1);
         assert_eq!(rt; table.is_start(state), state == 0);
-        assert_eq!(rt; table.leads(state, 0, 0), Next::To(0));
-        assert_eq!(rt; table.leads(state, 0, 1), Next::To(1));
+        assert_eq!(rt; table.leads(state, 0, 0), Some(0));
+        assert_eq!(rt; table.leads(state, 0, 1), Some(1));
     }
 }
 
@@ -54,8 +54,8 @@ fn moves_are_read_by_state_input_and_reply(rt: HostRuntime) {
             assert_eq!(rt; table.is_open(q, x), (q + x) % 2 == 0);
             for y in 0..2u16 {
                 let next = match (q + 2 * x + 3 * y) % 5 {
-                    4 => Next::Barred,
-                    p => Next::To(p),
+                    4 => None,
+                    p => Some(p),
                 };
                 assert_eq!(rt; table.leads(q, x, y), next);
             }
@@ -68,14 +68,14 @@ fn nothing_is_outside_the_game(rt: HostRuntime) {
     let bytes = worked_image();
     let table = Image::open(&bytes);
     assert!(rt; !table.is_open(0, 1));
-    assert_eq!(rt; table.leads(0, 1, 0), Next::Barred);
+    assert_eq!(rt; table.leads(0, 1, 0), None);
     assert!(rt; !table.in_assumption(1, 0) && !table.in_guarantee(1, 1));
     for number in [2, 3, 255, 256, 1024, 65535] {
         assert!(rt; !table.is_open(number, 0));
         assert!(rt; !table.is_open(0, number));
-        assert_eq!(rt; table.leads(number, 0, 0), Next::Barred);
-        assert_eq!(rt; table.leads(0, number, 0), Next::Barred);
-        assert_eq!(rt; table.leads(0, 0, number), Next::Barred);
+        assert_eq!(rt; table.leads(number, 0, 0), None);
+        assert_eq!(rt; table.leads(0, number, 0), None);
+        assert_eq!(rt; table.leads(0, 0, number), None);
         assert!(rt; !table.in_assumption(number, 0) && !table.in_assumption(0, number));
         assert!(rt; !table.in_guarantee(number, 1) && !table.in_guarantee(0, number));
         assert!(rt; !table.is_start(number));
@@ -92,6 +92,6 @@ fn refused_bytes_open_as_the_built_in_table(rt: HostRuntime) {
     assert_eq!(rt; table.assumptions(), 1);
     assert_eq!(rt; table.guarantees(), 1);
     assert!(rt; !table.is_open(0, 0));
-    assert_eq!(rt; table.leads(0, 0, 0), Next::To(0));
+    assert_eq!(rt; table.leads(0, 0, 0), Some(0));
     assert!(rt; !table.in_assumption(0, 0) && !table.in_guarantee(0, 0) && !table.is_start(0));
 }

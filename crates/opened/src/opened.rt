@@ -1,16 +1,17 @@
 ghost use Rattle.std.specs.Prelude.{◌≡◌};
 ghost use Rattle.opened.specs.Opened.{image_moves, image_goals, spelled_moves, spelled_goals};
-ghost use Rattle.opened.specs.Lawful.{lawful_moves, lawful_goals};
+ghost use Rattle.opened.specs.Lawful.{image_moves_lawful, image_goals_lawful};
 
-use arena::{Arena, HasGoals, HasMoves, Moves, Next};
+use arena::{Arena, Moves};
 use image::{Judged, Kind};
 use rules::Rules;
 use table::Table;
 
 /// A game that an image of some kind spells. Every question reads the caller's bytes.
 #[derive(Clone, Copy)]
-pub struct Image<'a> {
-    judged: Judged<'a>,
+pub enum Image<'a> {
+    Table(Table<'a>),
+    Rules(Rules<'a>),
 }
 
 impl<'a> Image<'a> {
@@ -19,94 +20,92 @@ impl<'a> Image<'a> {
         ensures moves { image_moves result ≡ spelled_moves bytes.now }
         ensures goals { image_goals result ≡ spelled_goals bytes.now }
     {
-        Image {
-            judged: Judged::open(bytes),
+        let judged = Judged::open(bytes);
+        match judged.kind() {
+            Kind::Table => Image::Table(Table::of(judged)),
+            Kind::Rules => Image::Rules(Rules::of(judged)),
         }
     }
 }
 
-impl<'a> HasMoves for Image<'a> {
+impl<'a> Moves for Image<'a> {
     ghost moves = { image_moves };
 
-    ghost lawful = { λ t. lawful_moves t.judged.kind t.judged.bytes.now t.judged.lawful };
-}
-
-impl<'a> Moves for Image<'a> {
     fn states(&self) -> u16 {
-        match self.judged.kind() {
-            Kind::Table => Table::of(self.judged).states(),
-            Kind::Rules => Rules::of(self.judged).states(),
+        match self {
+            Image::Table(table) => table.states(),
+            Image::Rules(rules) => rules.states(),
         }
     }
 
     fn inputs(&self) -> u16 {
-        match self.judged.kind() {
-            Kind::Table => Table::of(self.judged).inputs(),
-            Kind::Rules => Rules::of(self.judged).inputs(),
+        match self {
+            Image::Table(table) => table.inputs(),
+            Image::Rules(rules) => rules.inputs(),
         }
     }
 
     fn replies(&self) -> u16 {
-        match self.judged.kind() {
-            Kind::Table => Table::of(self.judged).replies(),
-            Kind::Rules => Rules::of(self.judged).replies(),
+        match self {
+            Image::Table(table) => table.replies(),
+            Image::Rules(rules) => rules.replies(),
         }
     }
 
     fn is_open(&self, state: u16, input: u16) -> bool {
-        match self.judged.kind() {
-            Kind::Table => Table::of(self.judged).is_open(state, input),
-            Kind::Rules => Rules::of(self.judged).is_open(state, input),
+        match self {
+            Image::Table(table) => table.is_open(state, input),
+            Image::Rules(rules) => rules.is_open(state, input),
         }
     }
 
-    fn leads(&self, state: u16, input: u16, reply: u16) -> Next {
-        match self.judged.kind() {
-            Kind::Table => Table::of(self.judged).leads(state, input, reply),
-            Kind::Rules => Rules::of(self.judged).leads(state, input, reply),
+    fn leads(&self, state: u16, input: u16, reply: u16) -> Option<u16> {
+        match self {
+            Image::Table(table) => table.leads(state, input, reply),
+            Image::Rules(rules) => rules.leads(state, input, reply),
         }
     }
-}
 
-impl<'a> HasGoals for Image<'a> {
-    ghost goals = { image_goals };
-
-    ghost lawful = { λ t. lawful_goals t.judged.kind t.judged.bytes.now t.judged.lawful };
+    ghost lawful = { image_moves_lawful };
 }
 
 impl<'a> Arena for Image<'a> {
+    ghost goals = { image_goals };
+
     fn assumptions(&self) -> u16 {
-        match self.judged.kind() {
-            Kind::Table => Table::of(self.judged).assumptions(),
-            Kind::Rules => Rules::of(self.judged).assumptions(),
+        match self {
+            Image::Table(table) => table.assumptions(),
+            Image::Rules(rules) => rules.assumptions(),
         }
     }
 
     fn guarantees(&self) -> u16 {
-        match self.judged.kind() {
-            Kind::Table => Table::of(self.judged).guarantees(),
-            Kind::Rules => Rules::of(self.judged).guarantees(),
+        match self {
+            Image::Table(table) => table.guarantees(),
+            Image::Rules(rules) => rules.guarantees(),
         }
     }
 
     fn in_assumption(&self, set: u16, state: u16) -> bool {
-        match self.judged.kind() {
-            Kind::Table => Table::of(self.judged).in_assumption(set, state),
-            Kind::Rules => Rules::of(self.judged).in_assumption(set, state),
+        match self {
+            Image::Table(table) => table.in_assumption(set, state),
+            Image::Rules(rules) => rules.in_assumption(set, state),
         }
     }
 
     fn in_guarantee(&self, set: u16, state: u16) -> bool {
-        match self.judged.kind() {
-            Kind::Table => Table::of(self.judged).in_guarantee(set, state),
-            Kind::Rules => Rules::of(self.judged).in_guarantee(set, state),
+        match self {
+            Image::Table(table) => table.in_guarantee(set, state),
+            Image::Rules(rules) => rules.in_guarantee(set, state),
         }
     }
 
     fn is_start(&self, state: u16) -> bool {
-        match self.judged.kind() {
-            Kind::Table => Table::of(self.judged).is_start(state),
-            Kind::Rules => Rules::of(self.judged).is_start(state),
+        match self {
+            Image::Table(table) => table.is_start(state),
+            Image::Rules(rules) => rules.is_start(state),
         }
     }
+
+    ghost lawful = { image_goals_lawful };
 }

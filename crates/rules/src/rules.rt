@@ -6,14 +6,14 @@ ghost use Rattle.rules.specs.Rows.{rows_hold};
 ghost use Rattle.rules.specs.Ruling.{rules_moves_lawful, rules_goals_lawful};
 
 use crate::row::{Question, Rows};
-use arena::{Arena, HasGoals, HasMoves, Moves, Next};
+use arena::{Arena, Moves};
 use image::{
     ASSUMPTION_ROWS, ASSUMPTION_SETS, CONTROLLER_ROWS, ENVIRONMENT_ROWS, GUARANTEE_ROWS,
     GUARANTEE_SETS, INPUT_BITS, Judged, Kind, OUTPUT_BITS, START_ROWS, number,
 };
 
 /// A game that rules over signals spell. Every question reads the caller's bytes.
-#[derive(Drop)]
+#[derive(Clone, Copy)]
 pub struct Rules<'a> {
     bytes: &'a [u8],
     ghost lawful: { is_rules bytes.now ≡ true },
@@ -83,13 +83,9 @@ fn two_to(bits: u16) -> u16
     1 << bits
 }
 
-impl<'a> HasMoves for Rules<'a> {
+impl<'a> Moves for Rules<'a> {
     ghost moves = { λ t. rules_moves t.bytes.now };
 
-    ghost lawful = { λ t. rules_moves_lawful t.bytes.now t.lawful };
-}
-
-impl<'a> Moves for Rules<'a> {
     fn states(&self) -> u16 {
         self.counts().states
     }
@@ -114,31 +110,25 @@ impl<'a> Moves for Rules<'a> {
         self.rows_hold(ENVIRONMENT_ROWS, step)
     }
 
-    fn leads(&self, state: u16, input: u16, reply: u16) -> Next {
+    fn leads(&self, state: u16, input: u16, reply: u16) -> Option<u16> {
         let counts = self.counts();
         if state >= counts.states || input >= counts.inputs || reply >= counts.replies {
-            return Next::Barred;
+            return None;
         }
         let next = input + counts.inputs * reply;
         let step = Question::Step {
             current: state,
             next,
         };
-        if self.rows_hold(CONTROLLER_ROWS, step) {
-            Next::To(next)
-        } else {
-            Next::Barred
-        }
+        self.rows_hold(CONTROLLER_ROWS, step).then_some(next)
     }
-}
 
-impl<'a> HasGoals for Rules<'a> {
-    ghost goals = { λ t. rules_goals t.bytes.now };
-
-    ghost lawful = { λ t. rules_goals_lawful t.bytes.now t.lawful };
+    ghost lawful = { λ t. rules_moves_lawful t.bytes.now t.lawful };
 }
 
 impl<'a> Arena for Rules<'a> {
+    ghost goals = { λ t. rules_goals t.bytes.now };
+
     fn assumptions(&self) -> u16 {
         self.header(ASSUMPTION_SETS)
     }
@@ -167,4 +157,6 @@ impl<'a> Arena for Rules<'a> {
         }
         self.rows_hold(START_ROWS, Question::Start { state })
     }
+
+    ghost lawful = { λ t. rules_goals_lawful t.bytes.now t.lawful };
 }

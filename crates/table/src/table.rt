@@ -5,14 +5,14 @@ ghost use Rattle.image.specs.Opening.{bytes_as};
 ghost use Rattle.table.specs.Tables.{is_table, table_moves, table_goals, flag_at, target_at};
 ghost use Rattle.table.specs.Tabling.{table_moves_lawful, table_goals_lawful};
 
-use arena::{Arena, HasGoals, HasMoves, Moves, Next};
+use arena::{Arena, Moves};
 use image::{
     ASSUMPTION_SETS, ASSUMPTIONS, BARRED, GUARANTEE_SETS, GUARANTEES, INPUTS, Judged, Kind,
     NEXT_STATES, OPEN_FLAGS, REPLIES, STARTS, STATES, Section, number,
 };
 
 /// A game that a table spells. Every question reads the caller's bytes.
-#[derive(Drop)]
+#[derive(Clone, Copy)]
 pub struct Table<'a> {
     bytes: &'a [u8],
     ghost lawful: { is_table bytes.now ≡ true },
@@ -72,13 +72,9 @@ fn cell_index(row: usize, columns: u16, column: u16) -> usize
     row * usize::from(columns) + usize::from(column)
 }
 
-impl<'a> HasMoves for Table<'a> {
+impl<'a> Moves for Table<'a> {
     ghost moves = { λ t. table_moves t.bytes.now };
 
-    ghost lawful = { λ t. table_moves_lawful t.bytes.now t.lawful };
-}
-
-impl<'a> Moves for Table<'a> {
     fn states(&self) -> u16 {
         self.header(STATES)
     }
@@ -95,24 +91,22 @@ impl<'a> Moves for Table<'a> {
         self.flag(OPEN_FLAGS, state, self.states(), input, self.inputs())
     }
 
-    fn leads(&self, state: u16, input: u16, reply: u16) -> Next {
+    fn leads(&self, state: u16, input: u16, reply: u16) -> Option<u16> {
         if state >= self.states() || input >= self.inputs() || reply >= self.replies() {
-            return Next::Barred;
+            return None;
         }
         match self.next_number(state, input, reply) {
-            BARRED => Next::Barred,
-            next => Next::To(next),
+            BARRED => None,
+            next => Some(next),
         }
     }
-}
 
-impl<'a> HasGoals for Table<'a> {
-    ghost goals = { λ t. table_goals t.bytes.now };
-
-    ghost lawful = { λ t. table_goals_lawful t.bytes.now t.lawful };
+    ghost lawful = { λ t. table_moves_lawful t.bytes.now t.lawful };
 }
 
 impl<'a> Arena for Table<'a> {
+    ghost goals = { λ t. table_goals t.bytes.now };
+
     fn assumptions(&self) -> u16 {
         self.header(ASSUMPTION_SETS)
     }
@@ -132,4 +126,6 @@ impl<'a> Arena for Table<'a> {
     fn is_start(&self, state: u16) -> bool {
         self.flag(STARTS, 0, 1, state, self.states())
     }
+
+    ghost lawful = { λ t. table_goals_lawful t.bytes.now t.lawful };
 }

@@ -9,14 +9,14 @@
 ghost use Rattle.std.specs.Prelude.{◌≡◌, IfOk, vec_len};
 
 use crate::state_set::StateSet;
-use arena::{Arena, Moves, Next, Player};
+use arena::{Arena, Moves, Player};
 use std::alloc::{AllocError, Global};
 
 mod state_set;
 
 /// Which player wins each state, in the order of the states.
 pub fn winners<A: Arena>(heap: Global, arena: &A) -> Result<Vec<Player>, AllocError>
-    ensures { IfOk result (λ v. vec_len v ≡ (A.HasMoves.moves arena.now).states) }
+    ensures { IfOk result (λ v. vec_len v ≡ (A.moves arena.now).states) }
 {
     let states = arena.states();
     let mut fixpoint = Fixpoint {
@@ -137,7 +137,7 @@ fn controls<A: Moves>(arena: &A, set: &StateSet, state: u16) -> bool {
 // Whether some legal reply to the input leads into the set.
 fn answers<A: Moves>(arena: &A, set: &StateSet, state: u16, input: u16) -> bool {
     for reply in 0..arena.replies() {
-        if let Next::To(next) = arena.leads(state, input, reply) {
+        if let Some(next) = arena.leads(state, input, reply) {
             if set.contains(next) {
                 return true;
             }

@@ -35,7 +35,7 @@ pub fn answer_image(heap: Global, bytes: &[u8]) -> Result<Answer, AllocError>
 
 // The verdicts of the arena's game.
 fn solve<A: Arena>(heap: Global, arena: &A) -> Result<Verdicts, AllocError>
-    ensures { IfOk result (Complete (A.HasMoves.moves arena.now) (A.HasGoals.goals arena.now)) }
+    ensures { IfOk result (Complete (A.moves arena.now) (A.goals arena.now)) }
 {
     let winners = textbook::winners(heap, arena)?;
     let realizable = starts_are_won(arena, winners.as_slice());
@@ -47,7 +47,7 @@ fn solve<A: Arena>(heap: Global, arena: &A) -> Result<Verdicts, AllocError>
 
 // Whether every start is the controller's.
 fn starts_are_won<A: Arena>(arena: &A, winners: &[Player]) -> bool
-    ensures { Decides result (StartsWon (A.HasGoals.goals arena.now) winners.now) }
+    ensures { Decides result (StartsWon (A.goals arena.now) winners.now) }
 {
     for state in 0..arena.states() {
         if arena.is_start(state) && !is_won(winners, usize::from(state)) {

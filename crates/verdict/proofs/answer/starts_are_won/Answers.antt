@@ -5,6 +5,6 @@ pub returns : goal.returns
 returns g c = (
   λ _ q s.
       c.loop-state.invariant q
-      (omega (arith, (g.met.A.HasGoals.lawful c.args.arena.now).starts_inside q s, c.states-state-end.ensures)) s,
+      (omega (arith, (g.met.A.Arena.lawful c.args.arena.now).starts_inside q s, c.states-state-end.ensures)) s,
   λ _. refl,
 )

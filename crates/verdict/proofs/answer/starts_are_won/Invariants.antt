@@ -6,5 +6,5 @@ use Rattle.verdict.proofs.answer.starts_are_won.Given as goal
 
 abbrev pub invariant-loop-state : goal.invariant-loop-state
 invariant-loop-state g l =
-    (q : ℕ) → q < l.state → starts (g.A.HasGoals.goals l.arena) q ≡ true →
+    (q : ℕ) → q < l.state → starts (g.A.Arena.goals l.arena) q ≡ true →
     is_controller (get_or l.winners q Environment) ≡ true
