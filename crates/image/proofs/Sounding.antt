@@ -1,7 +1,7 @@
 -- What the judging found of an image.
 use Rattle.std.proofs.Common.{◌≡◌, ℕ, ◌+◌, ◌/◌, ◌<◌, ◌≤◌, Bool, true, false, cond, ◌||◌, ltb, List, length, get_or, Some, None, Ok, Err, Option, Result, refl, ap, ◌∙◌, subst, arith}
+use Rattle.std.specs.Option.{option_map}
 use Rattle.std.proofs.lemmas.Bool.{or_parts, not-false, false≢true, ltb-false}
-use Rattle.image.specs.declared.judgement.PairTest.TheVariants.{Place, Size}
 use Rattle.image.specs.declared.kind.Kind.{Kind}
 use Rattle.image.specs.declared.kind.Kind.TheVariants.{Table, Rules}
 use Rattle.image.specs.declared.refusal.Refusal.{Refusal}
@@ -10,8 +10,7 @@ use Rattle.image.specs.Bytes.{number_at}
 use Rattle.image.specs.Format.{
   kind_of,
   pairs_of,
-  leasts_of,
-  limits_of,
+  bounds_of,
   too_many_bits,
   section_at,
   section_size,
@@ -29,22 +28,24 @@ use Rattle.image.specs.Judging.{
   number_bad,
   number_offset,
   bad_number,
-  pair_fails,
-  failing_pair,
+  misplaced,
+  misplaced_pair,
+  missized,
+  missized_section,
   cell_bad,
   cell_offset,
   bad_cell,
   bad_value,
 }
-use Rattle.image.specs.Opening.{is_image, says_kind, same_kind}
-use Rattle.image.proofs.Searching.{passed, first_none_all}
-use Rattle.image.proofs.Placing.{section_inside}
+use Rattle.image.specs.Opening.{is_image, says_kind, same_kind, built_in}
+use Rattle.search.specs.First.{first, lowest}
+use Rattle.search.proofs.Searching.{none_passes, first_none_all}
 
 -- No test found anything.
 pub record Sound (k : Kind) (bs : List ℕ) : Type 0 where
   pub numbers : bad_number k bs ≡ None
-  pub ordered : failing_pair Place k bs ≡ None
-  pub sizes : failing_pair Size k bs ≡ None
+  pub ordered : misplaced_pair k bs ≡ None
+  pub sizes : missized_section k bs ≡ None
   pub values : bad_value k bs ≡ None
 
 granted :
@@ -56,8 +57,8 @@ granted None f later k e = (refl, e)
 all_granted : (j k : Kind) (bs : List ℕ) → judged_as (Some j) bs ≡ Ok k → Sound k bs
 all_granted j k bs e =
     let n = granted (bad_number j bs) Header _ k e in
-    let p = granted (failing_pair Place j bs) Pair _ k n.1 in
-    let s = granted (failing_pair Size j bs) Section _ k p.1 in
+    let p = granted (misplaced_pair j bs) Pair _ k n.1 in
+    let s = granted (missized_section j bs) Section _ k p.1 in
     let v = granted (bad_value j bs) Value _ k s.1 in
     let same : j ≡ k = cc in
     subst (λ (i : Kind). Sound i bs) same (record { numbers = n.0; ordered = p.0; sizes = s.0; values = v.0 })
@@ -82,6 +83,12 @@ image_of_judged k bs e = ap (says_kind k) e ∙ same k
     same Table = refl
     same Rules = refl
 
+-- The built-in image of each kind is one.
+pub built_in_lawful : (k : Kind) → is_image k (built_in k) ≡ true
+unfolding is_image first lowest
+built_in_lawful Table = refl
+built_in_lawful Rules = refl
+
 pub sound : (k : Kind) (bs : List ℕ) → is_image k bs ≡ true → Sound k bs
 sound k bs e = by_length (right_length bs) (judged_of_image k bs e)
   where
@@ -93,36 +100,41 @@ sound k bs e = by_length (right_length bs) (judged_of_image k bs e)
     by_length true h = by_kind (kind_of bs) h
     by_length false h = let z : ◌≡◌ {A = ℕ} 0 1 = cc in absurd (omega arith)
 
+-- What comes of a place does, only where there is one.
+nothing : (f : ℕ → ℕ) (o : Option ℕ) → option_map f o ≡ None → o ≡ None
+nothing f (Some n) e = let z : ◌≡◌ {A = ℕ} 0 1 = cc in absurd (omega arith)
+nothing f None e = refl
+
 module _ (k : Kind) (bs : List ℕ) (s : Sound k bs) where
   module _ (h : ℕ) (l : h < 5) where
     abbrev value : ℕ
     value = number_at bs (number_offset h)
 
     fine : number_bad k bs h ≡ false
-    fine = passed (number_bad k bs) number_offset 5 s.numbers h l
+    fine = none_passes 5 (number_bad k bs) (nothing number_offset (lowest 5 (number_bad k bs)) s.numbers) h l
 
-    below_fine : (ltb (get_or (limits_of k) h 0) value || too_many_bits k bs h) ≡ false
-    below_fine = (or_parts (ltb value (get_or (leasts_of k) h 0)) _ fine).1
+    below_fine : (ltb ((get_or (bounds_of k) h (0, 0)).1) value || too_many_bits k bs h) ≡ false
+    below_fine = (or_parts (ltb value ((get_or (bounds_of k) h (0, 0)).0)) _ fine).1
 
     -- Each header number is at least its least value.
-    pub at_least : get_or (leasts_of k) h 0 ≤ number_at bs (number_offset h)
-    at_least = ltb-false _ _ (or_parts (ltb value (get_or (leasts_of k) h 0)) _ fine).0
+    pub at_least : (get_or (bounds_of k) h (0, 0)).0 ≤ number_at bs (number_offset h)
+    at_least = ltb-false _ _ (or_parts (ltb value ((get_or (bounds_of k) h (0, 0)).0)) _ fine).0
 
     -- Each header number is at most its greatest value.
-    pub at_most : number_at bs (number_offset h) ≤ get_or (limits_of k) h 0
+    pub at_most : number_at bs (number_offset h) ≤ (get_or (bounds_of k) h (0, 0)).1
     at_most = ltb-false _ _ (or_parts _ (too_many_bits k bs h) below_fine).0
 
     -- No header number makes too many bits.
     pub few_bits : too_many_bits k bs h ≡ false
-    few_bits = (or_parts (ltb (get_or (limits_of k) h 0) value) _ below_fine).1
+    few_bits = (or_parts (ltb ((get_or (bounds_of k) h (0, 0)).1) value) _ below_fine).1
 
   -- Each section has a length that it may have.
-  pub sized : (i : ℕ) → i < pairs_of k → size_fits k bs i (section_size bs i) ≡ true
-  sized i l = not-false _ (passed (pair_fails Size k bs) (λ n. n) (pairs_of k) s.sizes i l)
+  pub sized : (i : ℕ) → i < pairs_of k → size_fits k bs i ≡ true
+  sized i l = not-false _ (none_passes (pairs_of k) (missized k bs) s.sizes i l)
 
   -- Each section lies in the image.
   pub inside : (i : ℕ) → i < pairs_of k → section_at bs i + section_size bs i ≤ length bs
-  inside = section_inside k bs s.ordered
+  inside i l = ltb-false _ _ (or_parts _ _ (none_passes (pairs_of k) (misplaced k bs) s.ordered i l)).1
 
   -- Each cell holds what it may.
   pub cell_allowed :
@@ -130,4 +142,4 @@ module _ (k : Kind) (bs : List ℕ) (s : Sound k bs) where
       allowed (cell_of k i c) bs (value_at (cell_of k i c) bs (cell_offset k bs i c)) ≡ true
   cell_allowed i c l m =
       not-false _
-      (passed (cell_bad k bs i) (cell_offset k bs i) _ (first_none_all (pairs_of k) (bad_cell k bs) s.values i l) c m)
+      (none_passes _ (cell_bad k bs i) (nothing (cell_offset k bs i) _ (first_none_all (pairs_of k) (bad_cell k bs) s.values i l)) c m)

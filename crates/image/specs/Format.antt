@@ -1,14 +1,20 @@
 -- The shape of an image: its header, its sections and their cells, as each kind has them. Assumes nothing.
-use Rattle.std.specs.Prelude.{ℕ, ◌+◌, ◌*◌, ◌/◌, ◌%◌, ◌^◌, Bool, false, cond, ◌&&◌, ◌||◌, List, [], ◌∷◌, Some, None, Option, ◌==◌, nat_le, nat_lt, slice_index}
+use Rattle.std.specs.Prelude.{◌≡◌, ℕ, ◌+◌, ◌*◌, ◌/◌, ◌%◌, ◌^◌, Bool, false, cond, ◌&&◌, ◌||◌, List, [], ◌∷◌, Some, None, Ok, Err, Option, Result, ◌==◌, nat_le, nat_lt, slice_index}
 use Rattle.image.specs.declared.cell.Cell.{Cell}
 use Rattle.image.specs.declared.cell.Cell.TheVariants.{Flag, Target, Mask, InputMask, AssumptionSet, GuaranteeSet}
 use Rattle.image.specs.declared.kind.Kind.{Kind}
 use Rattle.image.specs.declared.kind.Kind.TheVariants.{Table, Rules}
+use Rattle.image.specs.declared.kind.UnknownKind.{UnknownKind}
 use Rattle.image.specs.Bytes.{byte_at, number_at}
 
 -- The kind that a number names: 1 is a table, 2 is rules.
 abbrev pub kind_named : ℕ → Option Kind
 kind_named n = cond (n == 1) (Some Table) (cond (n == 2) (Some Rules) None)
+
+-- A number is read as the kind that it names, and refused where it names none.
+abbrev pub Names : ℕ → Result Kind UnknownKind → Type 0
+Names n (Ok k) = kind_named n ≡ Some k
+Names n (Err e) = kind_named n ≡ None
 
 -- The kind that the first number of an image names, if it is known.
 abbrev pub kind_of : List ℕ → Option Kind
@@ -65,15 +71,10 @@ assumptions_of bs = number_at bs 8
 abbrev pub guarantees_of : List ℕ → ℕ
 guarantees_of bs = number_at bs 10
 
--- The least value of each number after the kind, in their order.
-abbrev pub leasts_of : Kind → List ℕ
-leasts_of Table = 1 ∷ 1 ∷ 1 ∷ 1 ∷ 1 ∷ []
-leasts_of Rules = 1 ∷ 1 ∷ 0 ∷ 1 ∷ 1 ∷ []
-
--- The greatest value of each number after the kind, in their order.
-abbrev pub limits_of : Kind → List ℕ
-limits_of Table = 1024 ∷ 64 ∷ 64 ∷ 8 ∷ 8 ∷ []
-limits_of Rules = 6 ∷ 6 ∷ 0 ∷ 8 ∷ 8 ∷ []
+-- The least and the greatest value of each number after the kind, in their order.
+abbrev pub bounds_of : Kind → List (ℕ × ℕ)
+bounds_of Table = (1, 1024) ∷ (1, 64) ∷ (1, 64) ∷ (1, 8) ∷ (1, 8) ∷ []
+bounds_of Rules = (1, 6) ∷ (1, 6) ∷ (0, 0) ∷ (1, 8) ∷ (1, 8) ∷ []
 
 -- Rules have at most ten bits together; more count against the output bits, header number 1, counted from 0 after the kind.
 abbrev pub too_many_bits : Kind → List ℕ → ℕ → Bool
@@ -99,10 +100,10 @@ table_sizes bs =
 abbrev pub row_width_of : ℕ → ℕ
 row_width_of i = cond (nat_lt i 2) 8 (cond (nat_lt i 4) 6 4)
 
--- Section i may have s bytes: in a table just those it must have, in rules a multiple of its row.
-abbrev pub size_fits : Kind → List ℕ → ℕ → ℕ → Bool
-size_fits Table bs i s = s == slice_index (table_sizes bs) i
-size_fits Rules bs i s = s % row_width_of i == 0
+-- Section i has as many bytes as it may: in a table just those it must have, in rules a multiple of its row.
+abbrev pub size_fits : Kind → List ℕ → ℕ → Bool
+size_fits Table bs i = section_size bs i == slice_index (table_sizes bs) i
+size_fits Rules bs i = section_size bs i % row_width_of i == 0
 
 -- What field f of a row of section i of rules holds. Rows of the environment: two masks, then two over the inputs alone. Rows of
 -- the assumptions and of the guarantees: the number of a set, then two masks. The others: masks.

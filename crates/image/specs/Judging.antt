@@ -1,21 +1,18 @@
 -- Which byte strings are images, and why the others are refused: the first failing test decides, then its first failing
 -- place. Assumes nothing.
-use Rattle.std.specs.Prelude.{ℕ, ◌+◌, ◌-◌, ◌*◌, ◌/◌, Bool, cond, not, ◌&&◌, ◌||◌, List, length, Some, None, Ok, Err, Option, Result, ◌==◌, nat_le, nat_lt, slice_index}
-use Rattle.image.specs.declared.judgement.PairTest.{PairTest}
-use Rattle.image.specs.declared.judgement.PairTest.TheVariants.{Place, Size}
+use Rattle.std.specs.Prelude.{ℕ, ◌+◌, ◌-◌, ◌*◌, ◌/◌, Bool, cond, not, ◌&&◌, ◌||◌, List, length, Some, None, Ok, Err, Option, Result, ◌==◌, nat_le, nat_lt, slice_index_or}
+use Rattle.std.specs.Option.{option_map}
 use Rattle.image.specs.declared.kind.Kind.{Kind}
 use Rattle.image.specs.declared.refusal.Refusal.{Refusal}
 use Rattle.image.specs.declared.refusal.Refusal.TheVariants.{Length, Header, Pair, Section, Value}
 use Rattle.image.specs.Bytes.{number_at}
-use Rattle.image.specs.First.{first, lowest, value_if}
 use Rattle.image.specs.Format.{
   kind_of,
   pairs_of,
   header_end,
   least_length,
   greatest_length,
-  leasts_of,
-  limits_of,
+  bounds_of,
   too_many_bits,
   section_at,
   section_size,
@@ -25,6 +22,7 @@ use Rattle.image.specs.Format.{
   value_at,
   allowed,
 }
+use Rattle.search.specs.First.{first, lowest}
 
 -- The image is neither too short nor too long.
 abbrev pub right_length : List ℕ → Bool
@@ -37,26 +35,32 @@ number_offset h = 2 + 2 * h
 -- Header number h is below its least value or above its greatest, or makes too many bits.
 abbrev pub number_bad : Kind → List ℕ → ℕ → Bool
 number_bad k bs h =
-    nat_lt (number_at bs (number_offset h)) (slice_index (leasts_of k) h)
-    || (nat_lt (slice_index (limits_of k) h) (number_at bs (number_offset h)) || too_many_bits k bs h)
+    nat_lt (number_at bs (number_offset h)) (slice_index_or (bounds_of k) h (0, 0)).0
+    || (nat_lt (slice_index_or (bounds_of k) h (0, 0)).1 (number_at bs (number_offset h)) || too_many_bits k bs h)
 
 -- The offset of the first header number that is out of range.
 abbrev pub bad_number : Kind → List ℕ → Option ℕ
-bad_number k bs = first 5 (λ h. value_if (number_bad k bs h) (number_offset h))
+bad_number k bs = option_map number_offset (lowest 5 (number_bad k bs))
 
 -- Where section i may begin at the earliest: at the end of the header, or of the section before it, which lies after the header.
 abbrev pub earliest_start : Kind → List ℕ → ℕ → ℕ
 earliest_start k bs i = cond (i == 0) (header_end k) (section_at bs (i - 1) + section_size bs (i - 1))
 
--- What is asked of the pair of section i, and fails: in the test of its place, the section begins too early or ends past the
--- image; in the test of its length, it has one that it may not.
-abbrev pub pair_fails : PairTest → Kind → List ℕ → ℕ → Bool
-pair_fails Place k bs i = nat_lt (section_at bs i) (earliest_start k bs i) || nat_lt (length bs) (section_at bs i + section_size bs i)
-pair_fails Size k bs i = not (size_fits k bs i (section_size bs i))
+-- Section i begins too early, or ends past the image.
+abbrev pub misplaced : Kind → List ℕ → ℕ → Bool
+misplaced k bs i = nat_lt (section_at bs i) (earliest_start k bs i) || nat_lt (length bs) (section_at bs i + section_size bs i)
 
--- The first pair that fails a test.
-abbrev pub failing_pair : PairTest → Kind → List ℕ → Option ℕ
-failing_pair test k bs = lowest (pairs_of k) (pair_fails test k bs)
+-- The first pair whose section is misplaced.
+abbrev pub misplaced_pair : Kind → List ℕ → Option ℕ
+misplaced_pair k bs = lowest (pairs_of k) (misplaced k bs)
+
+-- Section i has a length that it may not have.
+abbrev pub missized : Kind → List ℕ → ℕ → Bool
+missized k bs i = not (size_fits k bs i)
+
+-- The first section that is missized, by its pair.
+abbrev pub missized_section : Kind → List ℕ → Option ℕ
+missized_section k bs = lowest (pairs_of k) (missized k bs)
 
 -- Where cell c of section i stands.
 abbrev pub cell_offset : Kind → List ℕ → ℕ → ℕ → ℕ
@@ -68,7 +72,7 @@ cell_bad k bs i c = not (allowed (cell_of k i c) bs (value_at (cell_of k i c) bs
 
 -- The offset of the first bad cell of section i.
 abbrev pub bad_cell : Kind → List ℕ → ℕ → Option ℕ
-bad_cell k bs i = first (section_size bs i / width_of k i) (λ c. value_if (cell_bad k bs i c) (cell_offset k bs i c))
+bad_cell k bs i = option_map (cell_offset k bs i) (lowest (section_size bs i / width_of k i) (cell_bad k bs i))
 
 -- The offset of the first value that is not allowed, sections in order.
 abbrev pub bad_value : Kind → List ℕ → Option ℕ
@@ -83,7 +87,7 @@ refused_at None refusal later = later
 abbrev pub judged_as : Option Kind → List ℕ → Result Kind Refusal
 judged_as None bs = Err (Header 0)
 judged_as (Some k) bs =
-    refused_at (bad_number k bs) Header (refused_at (failing_pair Place k bs) Pair (refused_at (failing_pair Size k bs) Section
+    refused_at (bad_number k bs) Header (refused_at (misplaced_pair k bs) Pair (refused_at (missized_section k bs) Section
     (refused_at (bad_value k bs) Value (Ok k))))
 
 -- What is said of any byte string: its kind if it is an image, and else why it is refused.

@@ -1,5 +1,4 @@
 pub mod Bytes
-pub mod First
 pub mod Format
 pub mod Refusals
 pub mod Judging

@@ -1,6 +1,6 @@
 ghost use Rattle.std.specs.Prelude.{◌≡◌, ◌<◌};
 ghost use Rattle.image.specs.Bytes.{byte_at, number_at};
-ghost use Rattle.image.specs.Format.{section_at, section_size};
+ghost use Rattle.image.specs.Format.{section_at, section_size, state_bits_of};
 
 /// Where a table tells how many states it has.
 pub const STATES: usize = 2;
@@ -27,17 +27,14 @@ pub const GUARANTEE_SETS: usize = 10;
 pub(crate) fn byte(bytes: &[u8], at: usize) -> u8
     ensures { result ≡ byte_at bytes.now at }
 {
-    if at < bytes.len() { bytes[at] } else { 0 }
+    bytes.get(at).copied().unwrap_or(0)
 }
 
 /// The number at an offset: two bytes, low byte first. What lies past the end counts as 0.
 pub fn number(bytes: &[u8], at: usize) -> u16
     ensures { result ≡ number_at bytes.now at }
 {
-    if at >= bytes.len() {
-        return 0;
-    }
-    u16::from_le_bytes([bytes[at], byte(bytes, at + 1)])
+    u16::from_le_bytes([byte(bytes, at), byte(bytes, at.saturating_add(1))])
 }
 
 /// A pair of the header: where its section begins, and how many bytes it has.
@@ -60,4 +57,11 @@ impl Section {
             size: usize::from(number(bytes, at + 2)),
         }
     }
+}
+
+// How many bits a state of rules has.
+pub(crate) fn state_bits(bytes: &[u8]) -> u32
+    ensures { result ≡ state_bits_of bytes.now }
+{
+    u32::from(number(bytes, INPUT_BITS)) + u32::from(number(bytes, OUTPUT_BITS))
 }

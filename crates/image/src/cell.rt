@@ -1,8 +1,8 @@
 ghost use Rattle.std.specs.Prelude.{◌≡◌, ◌^◌, not, nat_lt};
 ghost use Rattle.image.specs.Format.{value_at, allowed};
 
-use crate::bytes::{ASSUMPTION_SETS, GUARANTEE_SETS, INPUT_BITS, STATES, byte, number};
-use crate::kind::{BARRED, state_bits};
+use crate::bytes::{ASSUMPTION_SETS, GUARANTEE_SETS, INPUT_BITS, STATES, byte, number, state_bits};
+use crate::kind::BARRED;
 
 // What a cell holds.
 #[derive(Clone, Copy)]

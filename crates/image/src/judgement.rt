@@ -1,130 +1,173 @@
-ghost use Rattle.std.specs.Prelude.{◌≡◌, ◌<◌};
-ghost use Rattle.image.specs.Judging.{judged, number_bad, bad_number, earliest_start, pair_fails, failing_pair, bad_cell, bad_value};
+ghost use Rattle.std.specs.Prelude.{◌≡◌, ◌<◌, Ok, Err, MatchOption, slice_index};
+ghost use Rattle.image.specs.Format.{too_many_bits, table_sizes, size_fits};
+ghost use Rattle.image.specs.Judging.{judged, number_bad, bad_number, earliest_start, misplaced, missized, misplaced_pair, missized_section, bad_cell, bad_value, refused_at};
 
-use crate::bytes::{Section, number};
-use crate::kind::Kind;
+use crate::bytes::{
+    ASSUMPTION_SETS, GUARANTEE_SETS, INPUTS, REPLIES, STATES, Section, number, state_bits,
+};
+use crate::kind::{ASSUMPTIONS, GUARANTEES, Kind, NEXT_STATES, OPEN_FLAGS, STARTS, row_width};
 use crate::refusal::Refusal;
 
 /// The greatest length of an image.
 pub const GREATEST_LENGTH: usize = 65535;
 
-// Whether header number `h` after the kind is out of range.
-fn number_is_bad(kind: Kind, bytes: &[u8], h: usize) -> bool
-    requires { h < 5 }
-    ensures { result ≡ number_bad kind bytes.now h }
-{
-    let n = number(bytes, 2 + 2 * h);
-    let leasts = kind.leasts();
-    let limits = kind.limits();
-    n < leasts[h] || n > limits[h] || kind.too_many_bits(bytes, h)
-}
+// The least length of bytes that name no kind.
+const LEAST_LENGTH: usize = 32;
 
-// The offset of the first header number that is out of range.
-fn bad_number(kind: Kind, bytes: &[u8]) -> Option<usize>
-    ensures { result ≡ bad_number kind bytes.now }
-{
-    for h in 0..5 {
-        if number_is_bad(kind, bytes, h) {
-            return Some(2 + 2 * h);
-        }
-    }
-    None
-}
+// The most bits that a state of rules has.
+const MOST_BITS: u32 = 10;
 
-// Where the section of a pair may begin at the earliest.
-fn earliest(kind: Kind, bytes: &[u8], pair: u8) -> usize
-    ensures { result ≡ earliest_start kind bytes.now pair }
-{
-    if pair == 0 {
-        return kind.header_end();
-    }
-    let before = Section::read(bytes, pair - 1);
-    before.offset + before.size
-}
-
-// What is asked of a pair: whether its section lies where it may, or whether it has a length that it may have.
+// Bytes that are taken for an image of a kind.
 #[derive(Clone, Copy)]
-pub(crate) enum PairTest {
-    Place,
-    Size,
+struct Candidate<'a> {
+    kind: Kind,
+    bytes: &'a [u8],
 }
 
-// Whether a pair fails a test.
-fn pair_fails(test: PairTest, kind: Kind, bytes: &[u8], pair: u8) -> bool
-    ensures { result ≡ pair_fails test kind bytes.now pair }
-{
-    let section = Section::read(bytes, pair);
-    match test {
-        PairTest::Place => {
-            section.offset < earliest(kind, bytes, pair)
-                || section.offset + section.size > bytes.len()
+impl Candidate<'_> {
+    // The offset of the first header number that is out of range.
+    fn bad_number(self) -> Option<usize>
+        ensures { result ≡ bad_number self.entry.kind self.entry.bytes.now }
+    {
+        (0..5).find(|h| self.number_is_bad(*h)).map(|h| 2 + 2 * h)
+    }
+
+    // Whether header number `h` after the kind is out of range.
+    fn number_is_bad(self, h: usize) -> bool
+        requires { h < 5 }
+        ensures { result ≡ number_bad self.entry.kind self.entry.bytes.now h }
+    {
+        let n = number(self.bytes, 2 + 2 * h);
+        let (least, greatest) = self.kind.bounds()[h];
+        !(least..=greatest).contains(&n) || self.has_too_many_bits(h)
+    }
+
+    // Whether header number `h` makes too many bits together with those before it.
+    fn has_too_many_bits(self, h: usize) -> bool
+        ensures { result ≡ too_many_bits self.entry.kind self.entry.bytes.now h }
+    {
+        match self.kind {
+            Kind::Table => false,
+            Kind::Rules => h == 1 && state_bits(self.bytes) > MOST_BITS,
         }
-        PairTest::Size => !kind.size_fits(bytes, pair, section.size),
+    }
+
+    // The first pair whose section lies where it may not.
+    #[tactic(auto, unfolding(search::specs::First::lowest))]
+    fn misplaced_pair(self) -> Option<u8>
+        ensures { result ≡ misplaced_pair self.entry.kind self.entry.bytes.now }
+    {
+        (0..self.kind.pairs()).find(|pair| self.is_misplaced(*pair))
+    }
+
+    // Whether the section of a pair begins too early, or ends past the image.
+    fn is_misplaced(self, pair: u8) -> bool
+        ensures { result ≡ misplaced self.entry.kind self.entry.bytes.now pair }
+    {
+        let section = Section::read(self.bytes, pair);
+        section.offset < self.earliest(pair) || section.offset + section.size > self.bytes.len()
+    }
+
+    // Where the section of a pair may begin at the earliest.
+    fn earliest(self, pair: u8) -> usize
+        ensures { result ≡ earliest_start self.entry.kind self.entry.bytes.now pair }
+    {
+        if pair == 0 {
+            return self.kind.header_end();
+        }
+        let before = Section::read(self.bytes, pair - 1);
+        before.offset + before.size
+    }
+
+    // The first section that has a length that it may not have.
+    #[tactic(auto, unfolding(search::specs::First::lowest))]
+    fn missized_section(self) -> Option<u8>
+        ensures { result ≡ missized_section self.entry.kind self.entry.bytes.now }
+    {
+        (0..self.kind.pairs()).find(|pair| !self.size_fits(*pair))
+    }
+
+    // Whether the section of a pair has a length that it may have.
+    fn size_fits(self, pair: u8) -> bool
+        ensures { result ≡ size_fits self.entry.kind self.entry.bytes.now pair }
+    {
+        let size = Section::read(self.bytes, pair).size;
+        match self.kind {
+            Kind::Table => size == table_size(self.bytes, pair),
+            Kind::Rules => size % row_width(pair) == 0,
+        }
+    }
+
+    // The offset of the first value that is not allowed.
+    fn bad_value(self) -> Option<usize>
+        ensures { result ≡ bad_value self.entry.kind self.entry.bytes.now }
+    {
+        (0..self.kind.pairs()).find_map(|pair| self.bad_cell(pair))
+    }
+
+    // The offset of the first bad cell of a section.
+    fn bad_cell(self, pair: u8) -> Option<usize>
+        ensures { result ≡ bad_cell self.entry.kind self.entry.bytes.now pair }
+    {
+        let width = self.kind.width(pair);
+        let section = Section::read(self.bytes, pair);
+        let offset = |cell: usize| section.offset + width * cell;
+        (0..section.size / width)
+            .find(|cell| self
+                .kind
+                .cell(pair, *cell)
+                .is_bad(self.bytes, offset(*cell)))
+            .map(offset)
     }
 }
 
-// The first pair that fails a test.
-fn failing_pair(test: PairTest, kind: Kind, bytes: &[u8]) -> Option<usize>
-    ensures { result ≡ failing_pair test kind bytes.now }
+// How many bytes the section of a pair of a table must have.
+fn table_size(bytes: &[u8], pair: u8) -> usize
+    ensures { result ≡ slice_index (table_sizes bytes.now) pair }
 {
-    for pair in 0..kind.pairs() {
-        if pair_fails(test, kind, bytes, pair) {
-            return Some(usize::from(pair));
-        }
+    let states = usize::from(number(bytes, STATES));
+    let inputs = usize::from(number(bytes, INPUTS));
+    let replies = usize::from(number(bytes, REPLIES));
+    match pair {
+        OPEN_FLAGS => states * inputs,
+        NEXT_STATES => states * inputs * replies * 2,
+        ASSUMPTIONS => usize::from(number(bytes, ASSUMPTION_SETS)) * states,
+        GUARANTEES => usize::from(number(bytes, GUARANTEE_SETS)) * states,
+        STARTS => states,
+        _ => 0,
     }
-    None
 }
 
-// The offset of the first bad cell of a section.
-fn bad_cell(kind: Kind, bytes: &[u8], pair: u8) -> Option<usize>
-    ensures { result ≡ bad_cell kind bytes.now pair }
+// A refusal at the place that a test found, where it found one.
+fn refuse_at<T, F: FnOnce(T) -> Refusal>(found: Option<T>, refusal: F) -> Result<(), Refusal>
+    requires { F.IsAlwaysCallable refusal }
+    ensures { MatchOption found (result ≡ Ok tt) (λ at. (e : Refusal) × F.post refusal at e × (result ≡ Err e)) }
 {
-    let width = kind.width(pair);
-    let section = Section::read(bytes, pair);
-    for cell in 0..section.size / width {
-        let at = section.offset + width * cell;
-        if kind.cell(pair, cell).is_bad(bytes, at) {
-            return Some(at);
-        }
+    match found {
+        Some(place) => Err(refusal(place)),
+        None => Ok(()),
     }
-    None
-}
-
-// The offset of the first value that is not allowed.
-fn bad_value(kind: Kind, bytes: &[u8]) -> Option<usize>
-    ensures { result ≡ bad_value kind bytes.now }
-{
-    for pair in 0..kind.pairs() {
-        let at = bad_cell(kind, bytes, pair);
-        if at.is_some() {
-            return at;
-        }
-    }
-    None
 }
 
 /// The kind of an image, or why the bytes are refused: the first failing test decides, then its first failing place.
 pub fn judge(bytes: &[u8]) -> Result<Kind, Refusal>
     ensures { result ≡ judged bytes.now }
 {
-    let kind = Kind::of(bytes);
-    if bytes.len() < Kind::least_length(kind) || bytes.len() > GREATEST_LENGTH {
+    let kind = Kind::try_from(number(bytes, 0));
+    let least = kind.map_or(LEAST_LENGTH, Kind::header_end);
+    if bytes.len() < least || bytes.len() > GREATEST_LENGTH {
         return Err(Refusal::Length);
     }
-    let Some(kind) = kind else {
-        return Err(Refusal::Header(0));
-    };
-    if let Some(offset) = bad_number(kind, bytes) {
-        return Err(Refusal::Header(offset));
-    }
-    if let Some(pair) = failing_pair(PairTest::Place, kind, bytes) {
-        return Err(Refusal::Pair(pair));
-    }
-    if let Some(pair) = failing_pair(PairTest::Size, kind, bytes) {
-        return Err(Refusal::Section(pair));
-    }
-    if let Some(offset) = bad_value(kind, bytes) {
-        return Err(Refusal::Value(offset));
-    }
-    Ok(kind)
+    let image = Candidate { kind: kind?, bytes };
+    refuse_at(image.bad_number(), Refusal::Header)?;
+    refuse_at(
+        image.misplaced_pair(),
+        |pair| Refusal::Pair(usize::from(pair)),
+    )?;
+    refuse_at(
+        image.missized_section(),
+        |pair| Refusal::Section(usize::from(pair)),
+    )?;
+    refuse_at(image.bad_value(), Refusal::Value)?;
+    Ok(image.kind)
 }

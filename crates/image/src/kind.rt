@@ -1,9 +1,6 @@
-ghost use Rattle.std.specs.Prelude.{◌≡◌, slice_index};
-ghost use Rattle.image.specs.Format.{kind_of, pairs_of, header_end, least_length, leasts_of, limits_of, too_many_bits, table_sizes, row_width_of, size_fits, cell_of, field_of, width_of, state_bits_of};
+ghost use Rattle.std.specs.Prelude.{◌≡◌};
+ghost use Rattle.image.specs.Format.{Names, pairs_of, header_end, bounds_of, row_width_of, cell_of, field_of, width_of};
 
-use crate::bytes::{
-    ASSUMPTION_SETS, GUARANTEE_SETS, INPUT_BITS, INPUTS, OUTPUT_BITS, REPLIES, STATES, number,
-};
 use crate::cell::Cell;
 
 /// The pair of a table's open flags.
@@ -39,9 +36,6 @@ pub const START_ROWS: u8 = 4;
 /// The next state that means a barred reply.
 pub const BARRED: u16 = 65535;
 
-// The most bits that a state of rules has.
-const MOST_BITS: u32 = 10;
-
 /// The formats of an image.
 #[derive(Clone, Copy, PartialEq, Eq, Debug)]
 pub enum Kind {
@@ -51,28 +45,25 @@ pub enum Kind {
     Rules,
 }
 
+/// A number that names no kind.
+#[derive(Clone, Copy, PartialEq, Eq, Debug)]
+pub struct UnknownKind;
+
+impl TryFrom<u16> for Kind {
+    type Error = UnknownKind;
+
+    ghost try_from_gives = { Names };
+
+    fn try_from(number: u16) -> Result<Kind, UnknownKind> {
+        match number {
+            1 => Ok(Kind::Table),
+            2 => Ok(Kind::Rules),
+            _ => Err(UnknownKind),
+        }
+    }
+}
+
 impl Kind {
-    // The kind that the first number names.
-    pub(crate) fn of(bytes: &[u8]) -> Option<Kind>
-        ensures { result ≡ kind_of bytes.now }
-    {
-        match number(bytes, 0) {
-            1 => Some(Kind::Table),
-            2 => Some(Kind::Rules),
-            _ => None,
-        }
-    }
-
-    // The least length of an image; one of no known kind counts like a table.
-    pub(crate) fn least_length(kind: Option<Kind>) -> usize
-        ensures { result ≡ least_length kind }
-    {
-        match kind {
-            Some(kind) => kind.header_end(),
-            None => 32,
-        }
-    }
-
     // How many pairs of offset and length the header has.
     pub(crate) fn pairs(self) -> u8
         ensures { result ≡ pairs_of self }
@@ -90,43 +81,13 @@ impl Kind {
         }
     }
 
-    // The least values of the header numbers after the kind.
-    pub(crate) fn leasts(self) -> [u16; 5]
-        ensures { result ≡ leasts_of self }
+    // The least and the greatest value of each header number after the kind.
+    pub(crate) fn bounds(self) -> [(u16, u16); 5]
+        ensures { result ≡ bounds_of self }
     {
         match self {
-            Kind::Table => [1, 1, 1, 1, 1],
-            Kind::Rules => [1, 1, 0, 1, 1],
-        }
-    }
-
-    // The greatest values of the header numbers after the kind.
-    pub(crate) fn limits(self) -> [u16; 5]
-        ensures { result ≡ limits_of self }
-    {
-        match self {
-            Kind::Table => [1024, 64, 64, 8, 8],
-            Kind::Rules => [6, 6, 0, 8, 8],
-        }
-    }
-
-    // Whether header number `h` makes too many bits together with those before it.
-    pub(crate) fn too_many_bits(self, bytes: &[u8], h: usize) -> bool
-        ensures { result ≡ too_many_bits self bytes.now h }
-    {
-        match self {
-            Kind::Table => false,
-            Kind::Rules => h == 1 && state_bits(bytes) > MOST_BITS,
-        }
-    }
-
-    // Whether the section of a pair may have so many bytes.
-    pub(crate) fn size_fits(self, bytes: &[u8], pair: u8, size: usize) -> bool
-        ensures { result ≡ size_fits self bytes.now pair size }
-    {
-        match self {
-            Kind::Table => size == table_size(bytes, pair),
-            Kind::Rules => size % row_width(pair) == 0,
+            Kind::Table => [(1, 1024), (1, 64), (1, 64), (1, 8), (1, 8)],
+            Kind::Rules => [(1, 6), (1, 6), (0, 0), (1, 8), (1, 8)],
         }
     }
 
@@ -153,23 +114,6 @@ impl Kind {
     }
 }
 
-// How many bytes the section of a pair of a table must have.
-fn table_size(bytes: &[u8], pair: u8) -> usize
-    ensures { result ≡ slice_index (table_sizes bytes.now) pair }
-{
-    let states = usize::from(number(bytes, STATES));
-    let inputs = usize::from(number(bytes, INPUTS));
-    let replies = usize::from(number(bytes, REPLIES));
-    match pair {
-        OPEN_FLAGS => states * inputs,
-        NEXT_STATES => states * inputs * replies * 2,
-        ASSUMPTIONS => usize::from(number(bytes, ASSUMPTION_SETS)) * states,
-        GUARANTEES => usize::from(number(bytes, GUARANTEE_SETS)) * states,
-        STARTS => states,
-        _ => 0,
-    }
-}
-
 /// How many bytes a row of a section of rules has.
 pub fn row_width(pair: u8) -> usize
     ensures { result ≡ row_width_of pair }
@@ -191,11 +135,4 @@ fn field(pair: u8, place: usize) -> Cell
         GUARANTEE_ROWS if place == 0 => Cell::GuaranteeSet,
         _ => Cell::Mask,
     }
-}
-
-// How many bits a state of rules has.
-pub(crate) fn state_bits(bytes: &[u8]) -> u32
-    ensures { result ≡ state_bits_of bytes.now }
-{
-    u32::from(number(bytes, INPUT_BITS)) + u32::from(number(bytes, OUTPUT_BITS))
 }

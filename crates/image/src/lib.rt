@@ -18,7 +18,7 @@ pub use bytes::{
 pub use judgement::{GREATEST_LENGTH, judge};
 pub use kind::{
     ASSUMPTION_ROWS, ASSUMPTIONS, BARRED, CONTROLLER_ROWS, ENVIRONMENT_ROWS, GUARANTEE_ROWS,
-    GUARANTEES, Kind, NEXT_STATES, OPEN_FLAGS, START_ROWS, STARTS, row_width,
+    GUARANTEES, Kind, NEXT_STATES, OPEN_FLAGS, START_ROWS, STARTS, UnknownKind, row_width,
 };
 pub use opening::Judged;
 pub use refusal::Refusal;

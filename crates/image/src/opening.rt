@@ -14,6 +14,7 @@ pub struct Judged<'a> {
 
 impl<'a> Judged<'a> {
     /// Opens the bytes of an image. Bytes that are refused open the built-in table: no caller is trusted to have judged them.
+    #[tactic(auto, using(crate::proofs::Sounding::image_of_judged, crate::proofs::Sounding::built_in_lawful))]
     pub fn open(bytes: &'a [u8]) -> Judged<'a>
         ensures kind { result.kind ≡ opened_kind bytes.now }
         ensures bytes { result.bytes.now ≡ opened_bytes bytes.now }
@@ -35,6 +36,7 @@ impl<'a> Judged<'a> {
     }
 
     /// The bytes of the image if it is of this kind, and otherwise those of the built-in image of the kind.
+    #[tactic(auto, using(crate::proofs::Sounding::built_in_lawful))]
     pub fn bytes_as(self, kind: Kind) -> &'a [u8]
         ensures same { result.now ≡ bytes_as kind self.entry.kind self.entry.bytes.now }
         ensures lawful { is_image kind result.now ≡ true }
@@ -49,8 +51,7 @@ impl<'a> Judged<'a> {
 
 // The built-in image of a kind: its numbers, its pairs, and its sections.
 fn built_in(kind: Kind) -> &'static [u8]
-    ensures same { result.now ≡ built_in kind }
-    ensures lawful { is_image kind result.now ≡ true }
+    ensures { result.now ≡ built_in kind }
 {
     match kind {
         Kind::Table => {

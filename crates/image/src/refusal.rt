@@ -1,6 +1,9 @@
 ghost use Rattle.std.specs.Prelude.{◌≡◌};
 ghost use Rattle.std.specs.Option.{option_to_list};
 ghost use Rattle.image.specs.Refusals.{refusal_number, refusal_values};
+ghost use Rattle.image.specs.declared.refusal.Refusal.TheVariants as refusal;
+
+use crate::kind::UnknownKind;
 
 /// Why bytes are not an image.
 #[derive(Clone, Copy, PartialEq, Eq, Debug)]
@@ -40,5 +43,14 @@ impl Refusal {
             Refusal::Header(at) | Refusal::Value(at) => Some(at),
             Refusal::Pair(pair) | Refusal::Section(pair) => Some(pair),
         }
+    }
+}
+
+impl From<UnknownKind> for Refusal {
+    ghost from_gives = { λ _ r. r ≡ refusal.Header 0 };
+
+    // The kind is the first number of the header.
+    fn from(_: UnknownKind) -> Refusal {
+        Refusal::Header(0)
     }
 }

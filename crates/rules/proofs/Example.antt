@@ -1,12 +1,12 @@
 -- The worked image spells its game.
 use Rattle.std.proofs.Common.{◌≡◌, ℕ, ◌+◌, ◌*◌, ◌%◌, ◌<◌, Bool, true, false, cond, not, ◌&&◌, eqb, ltb, leb, Some, None, refl, ap}
 use Rattle.std.proofs.lemmas.Bool.{ltb-true, false≢true}
-use Rattle.image.specs.First.{first}
 use Rattle.rules.specs.declared.row.Question.TheVariants.{Step, Member, Start}
 use Rattle.rules.specs.Games.{rules_moves, rules_goals, state_from}
 use Rattle.rules.specs.Rows.{rows_hold}
 use Rattle.rules.specs.Signals.{some, every}
 use Rattle.rules.specs.Worked.{Worked, worked_bytes, worked_game}
+use Rattle.search.specs.First.{first, lowest}
 use Rattle.rules.proofs.Counting.{each_passes}
 
 -- The two tests say the same.
@@ -69,7 +69,7 @@ unfolding same some every
 start = one 4 (λ q. rows_hold worked_bytes 4 (Start q)) (λ q. eqb q 0) refl
 
 pub worked : Worked
-unfolding first
+unfolding first lowest
 worked = record {
   lawful = refl;
   spells = λ i.

@@ -1,7 +1,7 @@
 -- The worked image spells its game.
 use Rattle.std.proofs.Common.{◌≡◌, ℕ, zero, suc, ◌+◌, ◌*◌, ◌<◌, Bool, true, false, cond, ◌&&◌, eqb, ltb, Some, None, Option, refl, arith}
 use Rattle.std.proofs.lemmas.Bool.{ltb-true, le-ltb, ne_eqb, and_parts}
-use Rattle.image.specs.First.{first}
+use Rattle.search.specs.First.{first, lowest}
 use Rattle.table.specs.Tables.{flag_at, target_at, target_of, table_moves, table_goals}
 use Rattle.table.specs.Worked.{Worked, worked_bytes, worked_game}
 
@@ -76,7 +76,7 @@ start : (q : ℕ) → (table_goals worked_bytes).start q ≡ worked_game.goals.s
 start q = only (flag_at worked_bytes 4) 0 (omega arith) refl refl q
 
 pub worked : Worked
-unfolding first
+unfolding first lowest
 worked = record {
   lawful = refl;
   spells = λ i.
