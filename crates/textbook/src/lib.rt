@@ -33,16 +33,15 @@ pub fn winners<A: Arena>(heap: Global, arena: &A) -> Result<Vec<Player>, AllocEr
 fn players(heap: Global, set: &StateSet, states: u16) -> Result<Vec<Player>, AllocError>
     ensures { IfOk result (λ v. vec_len v ≡ states) }
 {
-    let mut players = Vec::new(heap);
-    for state in 0..states {
-        let player = if set.contains(state) {
-            Player::Controller
-        } else {
-            Player::Environment
-        };
-        players.push(player)?;
-    }
-    Ok(players)
+    (0..states)
+        .map(|state| {
+            if set.contains(state) {
+                Player::Controller
+            } else {
+                Player::Environment
+            }
+        })
+        .collect(heap)
 }
 
 // The sets of the three fixpoints, each computed within the one before it.
@@ -55,65 +54,38 @@ struct Fixpoint<'a, A> {
 }
 
 impl<'a, A: Arena> Fixpoint<'a, A> {
-    // The greatest Z: it shrinks from all states until every guarantee set leaves it as it is.
+    // The greatest Z: it shrinks from all states until each guarantee set's least Y leaves it as it is.
     fn find_z(&mut self) {
-        for _ in 0..self.arena.states() {
-            if !self.shrink_z() {
-                return;
-            }
-        }
-    }
-
-    // Keeps in Z what lies in the least Y of every guarantee set. Says whether a state left.
-    fn shrink_z(&mut self) -> bool {
-        let mut changed = false;
-        for guarantee in 0..self.arena.guarantees() {
+        settle(self.arena.states(), self.arena.guarantees(), |guarantee| {
             self.find_y(guarantee);
-            changed |= self.z.intersect(&self.y);
-        }
-        changed
+            self.z.intersect(&self.y)
+        });
     }
 
-    // The least Y: it grows from nothing until no assumption set adds a state.
+    // The least Y: it grows from nothing until no assumption set's greatest X adds a state.
     fn find_y(&mut self, guarantee: u16) {
         self.y.fill(false);
-        for _ in 0..self.arena.states() {
-            if !self.grow_y(guarantee) {
-                return;
-            }
-        }
-    }
-
-    // Adds to Y the greatest X of every assumption set. Says whether a state joined.
-    fn grow_y(&mut self, guarantee: u16) -> bool {
-        let mut changed = false;
-        for assumption in 0..self.arena.assumptions() {
-            self.find_x(guarantee, assumption);
-            changed |= self.y.unite(&self.x);
-        }
-        changed
+        settle(
+            self.arena.states(),
+            self.arena.assumptions(),
+            |assumption| {
+                self.find_x(guarantee, assumption);
+                self.y.unite(&self.x)
+            },
+        );
     }
 
     // The greatest X: it shrinks from all states until every state left may stay.
     fn find_x(&mut self, guarantee: u16, assumption: u16) {
         self.x.fill(true);
-        for _ in 0..self.arena.states() {
-            if !self.shrink_x(guarantee, assumption) {
-                return;
-            }
-        }
-    }
-
-    // Removes from X each state that may not stay. Says whether one left.
-    fn shrink_x(&mut self, guarantee: u16, assumption: u16) -> bool {
-        let mut changed = false;
-        for state in 0..self.arena.states() {
-            if self.x.contains(state) && !self.stays(guarantee, assumption, state) {
+        let states = self.arena.states();
+        settle(states, states, |state| {
+            let leaves = self.x.contains(state) && !self.stays(guarantee, assumption, state);
+            if leaves {
                 self.x.remove(state);
-                changed = true;
             }
-        }
-        changed
+            leaves
+        });
     }
 
     // Whether the state is in (G_j ∩ CPre Z) ∪ CPre Y ∪ (complement of A_i ∩ CPre X).
@@ -124,24 +96,31 @@ impl<'a, A: Arena> Fixpoint<'a, A> {
     }
 }
 
-// CPre: whether every open input has a legal reply into the set.
-fn controls<A: Moves>(arena: &A, set: &StateSet, state: u16) -> bool {
-    for input in 0..arena.inputs() {
-        if arena.is_open(state, input) && !answers(arena, set, state, input) {
-            return false;
+// Calls `change` at each number below `count`, round after round, until a round changes nothing or `rounds` of them are over.
+fn settle<F: FnMut(u16) -> bool>(rounds: u16, count: u16, mut change: F)
+    requires { F.IsAlwaysCallable change }
+{
+    for _ in 0..rounds {
+        let mut changed = false;
+        for number in 0..count {
+            changed |= change(number);
+        }
+        if !changed {
+            return;
         }
     }
-    true
+}
+
+// CPre: whether every open input has a legal reply into the set.
+fn controls<A: Moves>(arena: &A, set: &StateSet, state: u16) -> bool {
+    (0..arena.inputs())
+        .filter(|input| arena.is_open(state, *input))
+        .all(|input| answers(arena, set, state, input))
 }
 
 // Whether some legal reply to the input leads into the set.
 fn answers<A: Moves>(arena: &A, set: &StateSet, state: u16, input: u16) -> bool {
-    for reply in 0..arena.replies() {
-        if let Some(next) = arena.leads(state, input, reply) {
-            if set.contains(next) {
-                return true;
-            }
-        }
-    }
-    false
+    (0..arena.replies())
+        .filter_map(|reply| arena.leads(state, input, reply))
+        .any(|next| set.contains(next))
 }

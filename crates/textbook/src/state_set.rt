@@ -25,31 +25,28 @@ impl StateSet {
 
     // Adds every state, or removes every one.
     pub(crate) fn fill(&mut self, member: bool) {
-        for flag in self.flags.iter_mut() {
-            *flag = member;
-        }
+        self.flags.fill(member);
     }
 
     // Removes what `other` lacks. Says whether a state left.
     pub(crate) fn intersect(&mut self, other: &StateSet) -> bool {
-        let mut changed = false;
-        for (flag, kept) in self.flags.iter_mut().zip(other.flags.iter()) {
-            if *flag && !*kept {
-                *flag = false;
-                changed = true;
-            }
-        }
-        changed
+        self.combine(other, |own, others| own && others)
     }
 
     // Adds what `other` has. Says whether a state joined.
     pub(crate) fn unite(&mut self, other: &StateSet) -> bool {
+        self.combine(other, |own, others| own || others)
+    }
+
+    // Makes each flag what `combined` says of it and of the flag of `other`. Says whether one changed.
+    fn combine<F: Fn(bool, bool) -> bool>(&mut self, other: &StateSet, combined: F) -> bool
+        requires { F.IsAlwaysCallable combined }
+    {
         let mut changed = false;
-        for (flag, added) in self.flags.iter_mut().zip(other.flags.iter()) {
-            if !*flag && *added {
-                *flag = true;
-                changed = true;
-            }
+        for (flag, others) in self.flags.iter_mut().zip(&other.flags) {
+            let new = combined(*flag, *others);
+            changed |= new != *flag;
+            *flag = new;
         }
         changed
     }
