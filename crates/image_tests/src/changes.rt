@@ -4,14 +4,13 @@ use std::process::Abort;
 // The image with another byte at an offset, which it must have.
 pub(crate) fn changed<const N: usize>(
     rt: &impl Abort,
-    image: [u8; N],
+    mut image: [u8; N],
     at: usize,
     byte: u8,
 ) -> [u8; N] {
-    let mut changed = image;
     assert!(rt; at < N);
-    changed[at] = byte;
-    changed
+    image[at] = byte;
+    image
 }
 
 // With each byte at its offset the image is refused.
@@ -20,8 +19,8 @@ pub(crate) fn check_refused<const N: usize>(
     image: [u8; N],
     cases: &[(usize, u8, Refusal)],
 ) {
-    for (at, byte, refusal) in cases {
-        assert_eq!(rt; judge(&changed(rt, image, *at, *byte)), Err(*refusal));
+    for &(at, byte, refusal) in cases {
+        assert_eq!(rt; judge(&changed(rt, image, at, byte)), Err(refusal));
     }
 }
 
@@ -32,8 +31,8 @@ pub(crate) fn check_granted<const N: usize>(
     kind: Kind,
     cases: &[(usize, u8)],
 ) {
-    for (at, byte) in cases {
-        assert_eq!(rt; judge(&changed(rt, image, *at, *byte)), Ok(kind));
+    for &(at, byte) in cases {
+        assert_eq!(rt; judge(&changed(rt, image, at, byte)), Ok(kind));
     }
 }
 
@@ -45,16 +44,13 @@ pub(crate) fn check_cut(rt: &impl Abort, image: &[u8], ends: [usize; 5]) {
         } else {
             Refusal::Pair(first_above(ends, length))
         };
-        assert_eq!(rt; judge(&image[0..length]), Err(refusal));
+        assert_eq!(rt; judge(&image[..length]), Err(refusal));
     }
 }
 
 // The first of the ends that lies past a length.
 fn first_above(ends: [usize; 5], length: usize) -> usize {
-    for i in 0..5 {
-        if ends[i] > length {
-            return i;
-        }
-    }
-    5
+    ends.iter()
+        .position(|end| *end > length)
+        .unwrap_or(ends.len())
 }

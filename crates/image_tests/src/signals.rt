@@ -1,3 +1,5 @@
+ghost use Rattle.std.specs.Prelude.{◌<◌};
+
 use arena::{Arena, Moves};
 use opened::Image;
 use rules::worked_image;
@@ -19,10 +21,7 @@ fn the_worked_image_answers_as_its_game(rt: HostRuntime) {
         assert_eq!(rt; rules.is_start(state), state == 0);
         for input in 0..2u16 {
             assert_eq!(rt; rules.leads(state, input, 0), Some(input));
-            let powered = match state {
-                0..=1 => Some(input + 2),
-                _ => None,
-            };
+            let powered = (state < 2).then_some(input + 2);
             assert_eq!(rt; rules.leads(state, input, 1), powered);
         }
     }
@@ -64,10 +63,7 @@ fn without_rows_everything_is_allowed_and_in_every_set(rt: HostRuntime) {
         for input in 0..4u16 {
             assert!(rt; rules.is_open(state, input));
             for reply in 0..2u16 {
-                assert_eq!(rt;
-                    rules.leads(state, input, reply),
-                    Some(input + 4 * reply)
-                );
+                assert_eq!(rt; rules.leads(state, input, reply), Some(input + 4 * reply));
             }
         }
     }
@@ -176,26 +172,17 @@ fn every_mask_counts(rt: HostRuntime) {
             assert_eq!(rt; rules.is_open(q, x), on(q, 0) || !on(q, 3) || on(x, 1));
             for y in 0..4u16 {
                 let legal = on(q, 2) || on(x, 1) || !on(y, 1);
-                let next = if legal {
-                    Some(x + 4 * y)
-                } else {
-                    None
-                };
-                assert_eq!(rt; rules.leads(q, x, y), next);
+                assert_eq!(rt; rules.leads(q, x, y), legal.then_some(x + 4 * y));
             }
         }
     }
 }
 
 // Whether a signal is on.
-fn on(number: u16, signal: u16) -> bool {
-    let weight = match signal {
-        0 => 1,
-        1 => 2,
-        2 => 4,
-        _ => 8,
-    };
-    number / weight % 2 == 1
+fn on(number: u16, signal: u16) -> bool
+    requires { signal < 16 }
+{
+    number >> signal & 1 == 1
 }
 
 // Ten signals, six of them inputs, and no row.

@@ -85,7 +85,7 @@ fn nothing_is_outside_the_game(rt: HostRuntime) {
 #[test]
 fn refused_bytes_open_as_the_built_in_table(rt: HostRuntime) {
     let bytes = worked_image();
-    let table = Image::open(&bytes[0..47]);
+    let table = Image::open(&bytes[..47]);
     assert_eq!(rt; table.states(), 1);
     assert_eq!(rt; table.inputs(), 1);
     assert_eq!(rt; table.replies(), 1);
