@@ -1,11 +1,9 @@
-ghost use Rattle.std.specs.Prelude.{◌≡◌, ◌<◌, Ok, Err, MatchOption, slice_index};
-ghost use Rattle.image.specs.Format.{too_many_bits, table_sizes, size_fits};
+ghost use Rattle.std.specs.Prelude.{◌≡◌, ◌<◌, Ok, Err, MatchOption};
 ghost use Rattle.image.specs.Judging.{judged, number_bad, bad_number, earliest_start, misplaced, missized, misplaced_pair, missized_section, bad_cell, bad_value, refused_at};
 
-use crate::bytes::{
-    ASSUMPTION_SETS, GUARANTEE_SETS, INPUTS, REPLIES, STATES, Section, number, state_bits,
-};
-use crate::kind::{ASSUMPTIONS, GUARANTEES, Kind, NEXT_STATES, OPEN_FLAGS, STARTS, row_width};
+use crate::bytes::{Section, number};
+use crate::candidate::Candidate;
+use crate::kind::Kind;
 use crate::refusal::Refusal;
 
 /// The greatest length of an image.
@@ -13,16 +11,6 @@ pub const GREATEST_LENGTH: usize = 65535;
 
 // The least length of bytes that name no kind.
 const LEAST_LENGTH: usize = 32;
-
-// The most bits that a state of rules has.
-const MOST_BITS: u32 = 10;
-
-// Bytes that are taken for an image of a kind.
-#[derive(Clone, Copy)]
-struct Candidate<'a> {
-    kind: Kind,
-    bytes: &'a [u8],
-}
 
 impl Candidate<'_> {
     // The offset of the first header number that is out of range.
@@ -40,16 +28,6 @@ impl Candidate<'_> {
         let n = number(self.bytes, 2 + 2 * h);
         let (least, greatest) = self.kind.bounds()[h];
         !(least..=greatest).contains(&n) || self.has_too_many_bits(h)
-    }
-
-    // Whether header number `h` makes too many bits together with those before it.
-    fn has_too_many_bits(self, h: usize) -> bool
-        ensures { result ≡ too_many_bits self.entry.kind self.entry.bytes.now h }
-    {
-        match self.kind {
-            Kind::Table => false,
-            Kind::Rules => h == 1 && state_bits(self.bytes) > MOST_BITS,
-        }
     }
 
     // The first pair whose section lies where it may not.
@@ -87,17 +65,6 @@ impl Candidate<'_> {
         (0..self.kind.pairs()).find(|pair| !self.size_fits(*pair))
     }
 
-    // Whether the section of a pair has a length that it may have.
-    fn size_fits(self, pair: u8) -> bool
-        ensures { result ≡ size_fits self.entry.kind self.entry.bytes.now pair }
-    {
-        let size = Section::read(self.bytes, pair).size;
-        match self.kind {
-            Kind::Table => size == table_size(self.bytes, pair),
-            Kind::Rules => size % row_width(pair) == 0,
-        }
-    }
-
     // The offset of the first value that is not allowed.
     fn bad_value(self) -> Option<usize>
         ensures { result ≡ bad_value self.entry.kind self.entry.bytes.now }
@@ -118,23 +85,6 @@ impl Candidate<'_> {
                 .cell(pair, *cell)
                 .is_bad(self.bytes, offset(*cell)))
             .map(offset)
-    }
-}
-
-// How many bytes the section of a pair of a table must have.
-fn table_size(bytes: &[u8], pair: u8) -> usize
-    ensures { result ≡ slice_index (table_sizes bytes.now) pair }
-{
-    let states = usize::from(number(bytes, STATES));
-    let inputs = usize::from(number(bytes, INPUTS));
-    let replies = usize::from(number(bytes, REPLIES));
-    match pair {
-        OPEN_FLAGS => states * inputs,
-        NEXT_STATES => states * inputs * replies * 2,
-        ASSUMPTIONS => usize::from(number(bytes, ASSUMPTION_SETS)) * states,
-        GUARANTEES => usize::from(number(bytes, GUARANTEE_SETS)) * states,
-        STARTS => states,
-        _ => 0,
     }
 }
 

@@ -5,6 +5,7 @@
 #![tactic(auto)]
 
 mod bytes;
+mod candidate;
 mod cell;
 mod judgement;
 mod kind;

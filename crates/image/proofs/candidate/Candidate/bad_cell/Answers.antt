@@ -2,7 +2,7 @@ use Rattle.std.proofs.Common.{◌∙◌, ap, rules, tests}
 use Rattle.std.specs.Option.{option_map}
 use Rattle.image.specs.Judging.{cell_bad, cell_offset}
 use Rattle.search.proofs.Chains.{mapped, lowest_from_find}
-use Rattle.image.proofs.judgement.Candidate.bad_cell.Goals as goal
+use Rattle.image.proofs.candidate.Candidate.bad_cell.Goals as goal
 
 pub returns : goal.returns
 returns c =

@@ -2,7 +2,7 @@ use Rattle.std.proofs.Common.{tests, rules}
 use Rattle.image.specs.Format.{pairs_of}
 use Rattle.image.specs.Judging.{bad_cell}
 use Rattle.search.proofs.Chains.{first_from_find_map}
-use Rattle.image.proofs.judgement.Candidate.bad_value.Goals as goal
+use Rattle.image.proofs.candidate.Candidate.bad_value.Goals as goal
 
 pub returns : goal.returns
 returns c =
