@@ -1,13 +1,7 @@
 -- What tests of numbers say.
 use Rattle.std.proofs.Common.{◌≡◌, ℕ, ◌^◌, ◌<◌, ◌≤◌, Bool, true, false, cond, ◌&&◌, ltb, Some, None, Option, refl, subst, ⊎_elim, arith}
-use Rattle.std.proofs.lemmas.Nat.{pow_below}
+use Rattle.std.proofs.lemmas.Option.{none-some}
 use Rattle.std.proofs.lemmas.Bool.{and_parts, cases_eq, ltb-true}
-
--- A power of two is at most one with a greater exponent.
-pub pow_at_most : (i j : ℕ) → i ≤ j → 2 ^ i ≤ 2 ^ j
-pow_at_most i j l =
-    ⊎_elim (λ (same : i ≡ j). subst (λ (k : ℕ). 2 ^ i ≤ 2 ^ k) same (omega arith))
-    (λ (other : i ≡ j → ⊥). omega (arith, pow_below i j (omega (arith, l, other)))) (cases_eq i j)
 
 -- Two tests and another hold only where both numbers are below their bounds.
 pub both_inside : (a b c d : ℕ) (f : Bool) → (ltb a b && (ltb c d && f)) ≡ true → (a < b) × (c < d)
@@ -16,4 +10,4 @@ both_inside a b c d f e = let t = and_parts _ _ e in (ltb-true _ _ t.0, ltb-true
 -- What is given only where a test holds is given where it holds.
 pub given_where : (b : Bool) (o : Option ℕ) (p : ℕ) → cond b o None ≡ Some p → (b ≡ true) × (o ≡ Some p)
 given_where true o p e = (refl, e)
-given_where false o p e = let z : ◌≡◌ {A = ℕ} 0 1 = cc in absurd (omega arith)
+given_where false o p e = absurd (none-some p e)

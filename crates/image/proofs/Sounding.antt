@@ -1,6 +1,7 @@
 -- What the judging found of an image.
-use Rattle.std.proofs.Common.{◌≡◌, ℕ, ◌+◌, ◌/◌, ◌<◌, ◌≤◌, Bool, true, false, cond, ◌||◌, ltb, List, length, get_or, Some, None, Ok, Err, Option, Result, refl, ap, ◌∙◌, subst, arith}
+use Rattle.std.proofs.Common.{◌≡◌, ℕ, ◌+◌, ◌/◌, ◌<◌, ◌≤◌, Bool, true, false, cond, ◌||◌, ltb, List, length, get_or, Some, None, Ok, Err, Option, Result, sym, refl, ap, ◌∙◌, subst, arith}
 use Rattle.std.specs.Option.{option_map}
+use Rattle.std.proofs.lemmas.Option.{none-some}
 use Rattle.std.proofs.lemmas.Bool.{or_parts, not-false, false≢true, ltb-false}
 use Rattle.image.specs.declared.kind.Kind.{Kind}
 use Rattle.image.specs.declared.kind.Kind.TheVariants.{Table, Rules}
@@ -48,10 +49,14 @@ pub record Sound (k : Kind) (bs : List ℕ) : Type 0 where
   pub sizes : missized_section k bs ≡ None
   pub values : bad_value k bs ≡ None
 
+-- A refusal is no kind.
+no_kind : (e : Refusal) (k : Kind) → Err e ≡ Ok k → ⊥
+no_kind e k h = let z : ◌≡◌ {A = ℕ} 0 1 = cc in omega arith
+
 granted :
     (o : Option ℕ) (f : ℕ → Refusal) (later : Result Kind Refusal) (k : Kind) → refused_at o f later ≡ Ok k →
     (o ≡ None) × (later ≡ Ok k)
-granted (Some n) f later k e = let z : ◌≡◌ {A = ℕ} 0 1 = cc in absurd (omega arith)
+granted (Some n) f later k e = absurd (no_kind (f n) k e)
 granted None f later k e = (refl, e)
 
 all_granted : (j k : Kind) (bs : List ℕ) → judged_as (Some j) bs ≡ Ok k → Sound k bs
@@ -93,16 +98,16 @@ pub sound : (k : Kind) (bs : List ℕ) → is_image k bs ≡ true → Sound k bs
 sound k bs e = by_length (right_length bs) (judged_of_image k bs e)
   where
     by_kind : (o : Option Kind) → judged_as o bs ≡ Ok k → Sound k bs
-    by_kind None h = let z : ◌≡◌ {A = ℕ} 0 1 = cc in absurd (omega arith)
+    by_kind None h = absurd (no_kind (Header 0) k h)
     by_kind (Some j) h = all_granted j k bs h
 
     by_length : (b : Bool) → cond b (judged_as (kind_of bs) bs) (Err Length) ≡ Ok k → Sound k bs
     by_length true h = by_kind (kind_of bs) h
-    by_length false h = let z : ◌≡◌ {A = ℕ} 0 1 = cc in absurd (omega arith)
+    by_length false h = absurd (no_kind Length k h)
 
 -- What comes of a place does, only where there is one.
 nothing : (f : ℕ → ℕ) (o : Option ℕ) → option_map f o ≡ None → o ≡ None
-nothing f (Some n) e = let z : ◌≡◌ {A = ℕ} 0 1 = cc in absurd (omega arith)
+nothing f (Some n) e = absurd (none-some (f n) (sym e))
 nothing f None e = refl
 
 module _ (k : Kind) (bs : List ℕ) (s : Sound k bs) where

@@ -3,6 +3,7 @@ use Rattle.std.proofs.Common.{◌≡◌, ℕ, zero, suc, ◌+◌, ◌<◌, Bool,
 use Rattle.std.specs.List.{range_with_len, list_all, list_any}
 use Rattle.std.specs.Option.{option_or}
 use Rattle.std.proofs.lemmas.Bool.{and_parts, and_from, cases_eq, false≢true}
+use Rattle.std.proofs.lemmas.Option.{none-some}
 use Rattle.std.proofs.lemmas.List.Folds.{find-append, list_any-append, list_all-append}
 use Rattle.search.specs.First.{first, lowest, every, some}
 
@@ -117,7 +118,7 @@ module _ {A : Type 0} where
       none_left None p h = refl
 
       none_right : (o p : Option A) → option_or o p ≡ None → p ≡ None
-      none_right (Some x) p h = let z : ◌≡◌ {A = ℕ} 0 1 = cc in absurd (omega arith)
+      none_right (Some x) p h = absurd (none-some x (sym h))
       none_right None p h = h
 
 -- ── The lowest number that passes ─────────────────────────────────────────────────────────────
@@ -134,20 +135,20 @@ pub none_passes : (n : ℕ) (test : ℕ → Bool) → lowest n test ≡ None →
 none_passes n test e k l = fails (test k) (first_none_all n (λ k. cond (test k) (Some k) None) (sym (lowest_first n test) ∙ e) k l)
   where
     fails : (b : Bool) → cond b (Some k) None ≡ None → b ≡ false
-    fails true h = let z : ◌≡◌ {A = ℕ} 0 1 = cc in absurd (omega arith)
+    fails true h = absurd (none-some k (sym h))
     fails false h = refl
 
 -- What is found lies below the bound and passes.
 first_passes :
     (n : ℕ) (test : ℕ → Bool) (x : ℕ) → first n (λ k. cond (test k) (Some k) None) ≡ Some x → (x < n) × (test x ≡ true)
 unfolding first
-first_passes zero test x e = let z : ◌≡◌ {A = ℕ} 0 1 = cc in absurd (omega arith)
+first_passes zero test x e = absurd (none-some x e)
 first_passes (suc n) test x e =
     go (first n (λ k. cond (test k) (Some k) None)) (test n) (first_passes n test x) refl e
   where
     here : (b : Bool) → test n ≡ b → cond b (Some n) None ≡ Some x → (x < suc n) × (test x ≡ true)
     here true t h = let same : n ≡ x = cc in (omega arith, subst (λ (k : ℕ). test k ≡ true) same t)
-    here false t h = let z : ◌≡◌ {A = ℕ} 0 1 = cc in absurd (omega arith)
+    here false t h = absurd (none-some x h)
 
     go :
         (o : Option ℕ) (b : Bool) → (o ≡ Some x → (x < n) × (test x ≡ true)) → test n ≡ b → option_or o (cond b (Some n) None) ≡ Some x →

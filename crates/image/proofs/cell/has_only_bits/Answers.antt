@@ -1,12 +1,12 @@
 use Rattle.std.proofs.Common.{◌≡◌, ℕ, ◌/◌, ◌^◌, ◌<◌, ◌≤◌, Bool, true, false, eqb, ltb, sym, refl, ◌∙◌, arith}
 use Rattle.std.proofs.lemmas.Nat.{pow_pos, div_below, le-div}
 use Rattle.std.proofs.lemmas.Bool.{ltb-true, ltb-false, lt-ltb, le-leb, eq-eqb, ne_eqb}
-use Rattle.image.proofs.Numbers.{pow_at_most}
+use Rattle.std.proofs.Math.Pow.{pow_mono}
 use Rattle.image.proofs.cell.has_only_bits.Goals as goal
 
 -- From 16 bits on every number of two bytes fits.
 wide_enough : (n b : ℕ) → n < 65536 → 16 ≤ b → n < 2 ^ b
-wide_enough n b l w = omega (arith, l, pow_at_most 16 b w)
+wide_enough n b l w = omega (arith, l, pow_mono w)
 
 pub returns-then-bits-ge16 : goal.returns-then-bits-ge16
 returns-then-bits-ge16 c =
