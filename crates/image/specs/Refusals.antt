@@ -1,5 +1,5 @@
 -- What a refusal tells. Assumes nothing.
-use Rattle.std.specs.Prelude.{ℕ, List, [], ◌∷◌}
+use Rattle.std.specs.Prelude.{ℕ, List, [], ◌∷◌, ◌++◌, codes, decimal}
 use Rattle.image.specs.declared.refusal.Refusal.{Refusal}
 use Rattle.image.specs.declared.refusal.Refusal.TheVariants.{Length, Header, Pair, Section, Value}
 
@@ -18,3 +18,12 @@ refusal_values (Header offset) = offset ∷ []
 refusal_values (Pair pair) = pair ∷ []
 refusal_values (Section pair) = pair ∷ []
 refusal_values (Value offset) = offset ∷ []
+
+-- Numbers, each after a space.
+abbrev pub spaced_numbers : List ℕ → List ℕ
+spaced_numbers [] = []
+spaced_numbers (n ∷ ns) = codes " " ++ (decimal n ++ spaced_numbers ns)
+
+-- How a refusal is printed: its number and its values.
+abbrev pub refusal_told : Refusal → List ℕ
+refusal_told e = decimal (refusal_number e) ++ spaced_numbers (refusal_values e)

@@ -1,9 +1,10 @@
-ghost use Rattle.std.specs.Prelude.{◌≡◌};
+ghost use Rattle.std.specs.Prelude.{◌≡◌, Some};
 ghost use Rattle.std.specs.Option.{option_to_list};
-ghost use Rattle.image.specs.Refusals.{refusal_number, refusal_values};
+ghost use Rattle.image.specs.Refusals.{refusal_number, refusal_values, refusal_told};
 ghost use Rattle.image.specs.declared.refusal.Refusal.TheVariants as refusal;
 
 use crate::kind::UnknownKind;
+use std::fmt;
 
 /// Why bytes are not an image.
 #[derive(Clone, Copy, PartialEq, Eq, Debug)]
@@ -52,5 +53,17 @@ impl From<UnknownKind> for Refusal {
     // The kind is the first number of the header.
     fn from(_: UnknownKind) -> Refusal {
         Refusal::Header(0)
+    }
+}
+
+/// The number, and after a space the value where there is one.
+impl fmt::Display for Refusal {
+    ghost output = { λ e. Some (refusal_told e) };
+
+    fn fmt<W: fmt::Write>(&self, f: &mut fmt::Formatter<W>) -> fmt::Result {
+        match self.value() {
+            Some(value) => write!(f, "{} {value}", self.number()),
+            None => write!(f, "{}", self.number()),
+        }
     }
 }
