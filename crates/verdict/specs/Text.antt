@@ -3,7 +3,7 @@ use Rattle.std.specs.Prelude.{ℕ, ◌+◌, Bool, true, false, List, [], ◌∷�
 use Rattle.arena.specs.declared.player.Player.{Player}
 use Rattle.arena.specs.declared.player.Player.TheVariants.{Controller, Environment}
 use Rattle.image.specs.declared.refusal.Refusal.{Refusal}
-use Rattle.image.specs.Refusals.{refusal_number, refusal_values}
+use Rattle.image.specs.Refusals.{refusal_told}
 use Rattle.verdict.specs.declared.answer.Verdicts.{Verdicts}
 use Rattle.verdict.specs.declared.answer.Answer.{Answer}
 use Rattle.verdict.specs.declared.answer.Answer.TheVariants.{Refused, Solved}
@@ -31,14 +31,9 @@ abbrev pub yes_or_no : Bool → List ℕ
 yes_or_no true = codes "yes"
 yes_or_no false = codes "no"
 
--- Numbers, each after a space.
-abbrev pub spaced_numbers : List ℕ → List ℕ
-spaced_numbers [] = []
-spaced_numbers (n ∷ ns) = codes " " ++ (decimal n ++ spaced_numbers ns)
-
 -- A refusal is one line: the word, its number and its values.
 abbrev pub refusal_text : Refusal → List ℕ
-refusal_text e = codes "refused " ++ decimal (refusal_number e) ++ spaced_numbers (refusal_values e) ++ newline
+refusal_text e = codes "refused " ++ refusal_told e ++ newline
 
 -- Verdicts are a line a state, in ascending order, and a last line that says whether the game is realizable.
 abbrev pub verdicts_text : Verdicts → List ℕ

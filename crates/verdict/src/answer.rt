@@ -38,7 +38,7 @@ fn solve<A: Arena>(heap: Global, arena: &A) -> Result<Verdicts, AllocError>
     ensures { IfOk result (Complete (A.moves arena.now) (A.goals arena.now)) }
 {
     let winners = textbook::winners(heap, arena)?;
-    let realizable = starts_are_won(arena, winners.as_slice());
+    let realizable = starts_are_won(arena, &winners);
     Ok(Verdicts {
         winners,
         realizable,
@@ -61,11 +61,5 @@ fn starts_are_won<A: Arena>(arena: &A, winners: &[Player]) -> bool
 fn is_won(winners: &[Player], state: usize) -> bool
     ensures { result ≡ is_controller (slice_index_or winners.now state Environment) }
 {
-    if state >= winners.len() {
-        return false;
-    }
-    match winners[state] {
-        Player::Controller => true,
-        Player::Environment => false,
-    }
+    winners.get(state) == Some(&Player::Controller)
 }

@@ -1,70 +1,44 @@
-ghost use Rattle.std.specs.Prelude.{◌≡◌, IfOk, string_bytes};
-ghost use Rattle.std.specs.Option.{option_to_list};
-ghost use Rattle.verdict.specs.Text.{letter_of, state_line, state_lines, yes_or_no, spaced_numbers, refusal_text, verdicts_text, answer_text};
+ghost use Rattle.std.specs.Prelude.{◌≡◌, IfOk, Some, string_bytes};
+ghost use Rattle.verdict.specs.Text.{letter_of, verdicts_text, answer_text};
 
 use crate::answer::{Answer, Verdicts};
 use arena::Player;
-use image::Refusal;
 use std::alloc::{AllocError, Global};
+use std::fmt;
 
 /// What the program prints of an answer: a line a state and whether the game is realizable, or why the image is refused.
 pub fn answer_text(heap: Global, answer: &Answer) -> Result<String, AllocError>
     ensures { IfOk result (λ s. string_bytes s ≡ answer_text answer.now) }
 {
-    match answer {
-        Answer::Refused(refusal) => refusal_text(heap, *refusal),
-        Answer::Solved(verdicts) => verdicts_text(heap, verdicts),
+    answer.to_string(heap)
+}
+
+/// The refusal on a line, or the verdicts.
+impl fmt::Display for Answer {
+    ghost output = { λ a. Some (answer_text a) };
+
+    fn fmt<W: fmt::Write>(&self, f: &mut fmt::Formatter<W>) -> fmt::Result {
+        match self {
+            Answer::Refused(refusal) => writeln!(f, "refused {refusal}"),
+            Answer::Solved(verdicts) => write!(f, "{verdicts}"),
+        }
     }
 }
 
-fn refusal_text(heap: Global, refusal: Refusal) -> Result<String, AllocError>
-    ensures { IfOk result (λ s. string_bytes s ≡ refusal_text refusal) }
-{
-    let mut text = String::from_str(heap, "refused ")?;
-    text.push_str(refusal.number().to_string(heap)?.as_str())?;
-    text.push_str(spaced(heap, refusal.value())?.as_str())?;
-    text.push_str("\n")?;
-    Ok(text)
-}
+/// A line for each state, and one that says whether the game is realizable.
+impl fmt::Display for Verdicts {
+    ghost output = { λ v. Some (verdicts_text v) };
 
-// The value after a space, where there is one.
-fn spaced(heap: Global, value: Option<usize>) -> Result<String, AllocError>
-    ensures { IfOk result (λ s. string_bytes s ≡ spaced_numbers (option_to_list value)) }
-{
-    match value {
-        Some(value) => format!(in heap; " {value}"),
-        None => Ok(String::new(heap)),
+    fn fmt<W: fmt::Write>(&self, f: &mut fmt::Formatter<W>) -> fmt::Result {
+        for (state, winner) in self.winners.iter().enumerate() {
+            writeln!(f, "{state} {}", letter(*winner))?;
+        }
+        let answer = if self.realizable { "yes" } else { "no" };
+        writeln!(f, "realizable {answer}")
     }
 }
 
-fn verdicts_text(heap: Global, verdicts: &Verdicts) -> Result<String, AllocError>
-    ensures { IfOk result (λ s. string_bytes s ≡ verdicts_text verdicts.now) }
-{
-    let mut text = state_lines(heap, verdicts.winners.as_slice())?;
-    text.push_str("realizable ")?;
-    text.push_str(yes_or_no(verdicts.realizable))?;
-    text.push_str("\n")?;
-    Ok(text)
-}
-
-// A line for each state.
-fn state_lines(heap: Global, winners: &[Player]) -> Result<String, AllocError>
-    ensures { IfOk result (λ s. string_bytes s ≡ state_lines 0 winners.now) }
-{
-    let mut lines = String::new(heap);
-    for (state, winner) in winners.iter().enumerate() {
-        lines.push_str(state_line(heap, state, *winner)?.as_str())?;
-    }
-    Ok(lines)
-}
-
-fn state_line(heap: Global, state: usize, winner: Player) -> Result<String, AllocError>
-    ensures { IfOk result (λ s. string_bytes s ≡ state_line state winner) }
-{
-    let letter = letter(winner);
-    format!(in heap; "{state} {letter}\n")
-}
-
+// The letter of a player.
 fn letter(winner: Player) -> &'static str
     ensures { result.now ≡ letter_of winner }
 {
@@ -72,10 +46,4 @@ fn letter(winner: Player) -> &'static str
         Player::Controller => "c",
         Player::Environment => "e",
     }
-}
-
-fn yes_or_no(answer: bool) -> &'static str
-    ensures { result.now ≡ yes_or_no answer }
-{
-    if answer { "yes" } else { "no" }
 }
