@@ -5,7 +5,7 @@ use Rattle.image.specs.declared.kind.Kind.TheVariants.{Rules}
 use Rattle.image.specs.Bytes.{number_at}
 use Rattle.image.specs.Format.{input_bits_of}
 use Rattle.image.proofs.Fields.{next_mask}
-use Rattle.image.proofs.Numbers.{pow_at_most}
+use Rattle.std.proofs.Math.Pow.{pow_mono}
 use Rattle.image.proofs.Sounding.{Sound}
 use Rattle.rules.specs.Games.{input_count, InputsAlone}
 use Rattle.rules.specs.Rows.{row_count, row_at, masks_at_hold}
@@ -30,10 +30,10 @@ low_masks_hold a t f x y few l m n =
     ∙ sym (masks_by_and t f x small_t small_f)
   where
     small_t : t < 65536
-    small_t = omega (arith, l, pow_at_most a 6 few)
+    small_t = omega (arith, l, pow_mono few)
 
     small_f : f < 65536
-    small_f = omega (arith, m, pow_at_most a 6 few)
+    small_f = omega (arith, m, pow_mono few)
 
 pub inputs_alone : (bs : List ℕ) → Sound Rules bs → InputsAlone bs
 inputs_alone bs s q x y l =

@@ -2,11 +2,12 @@
 use Rattle.std.specs.Prelude.{◌≡◌, ℕ, ◌+◌, ◌*◌, ◌<◌, ◌≤◌, true, ◌&&◌, List, Some, nat_lt}
 use Rattle.std.proofs.Common.{sym, subst, arith}
 use Rattle.std.proofs.lemmas.Nat.{pow_pos, pow-add, mul-add-lt}
+use Rattle.std.proofs.Math.Pow.{pow_mono}
 use Rattle.std.proofs.lemmas.Bool.{and_parts, ltb-true, ltb-false}
 use Rattle.arena.specs.Game.{LawfulMoves, LawfulGoals}
 use Rattle.image.specs.declared.kind.Kind.TheVariants.{Rules}
 use Rattle.image.specs.Format.{input_bits_of, output_bits_of, state_bits_of}
-use Rattle.image.proofs.Numbers.{pow_at_most, both_inside, given_where}
+use Rattle.image.proofs.Numbers.{both_inside, given_where}
 use Rattle.image.proofs.Sounding.{Sound, sound, at_least, at_most, few_bits}
 use Rattle.rules.specs.Games.{is_rules, state_count, input_count, reply_count, state_from, rules_moves, rules_goals}
 
@@ -29,7 +30,7 @@ module _ (bs : List ℕ) (s : Sound Rules bs) where
   pub state_small : (n r x y : ℕ) → n ≡ input_count bs → r ≡ reply_count bs → x < n → y < r → x + n * y < 1024
   state_small n r x y e f l m =
       subst (λ (k : ℕ). x + k * y < 1024) (sym e)
-      (omega (arith, state_inside bs x y (omega (arith, e, l)) (omega (arith, f, m)), pow_at_most (state_bits_of bs) 10 few_signals))
+      (omega (arith, state_inside bs x y (omega (arith, e, l)) (omega (arith, f, m)), pow_mono few_signals))
 
   -- A reply that leads somewhere is one of the game's, and so is where it leads.
   legal :
@@ -49,11 +50,11 @@ module _ (bs : List ℕ) (s : Sound Rules bs) where
   pub lawful_moves : LawfulMoves (rules_moves bs)
   lawful_moves = record {
     some_state = pow_pos (state_bits_of bs);
-    few_states = pow_at_most (state_bits_of bs) 10 few_signals;
+    few_states = pow_mono few_signals;
     some_input = pow_pos (input_bits_of bs);
-    few_inputs = pow_at_most (input_bits_of bs) 6 few_inputs;
+    few_inputs = pow_mono few_inputs;
     some_reply = pow_pos (output_bits_of bs);
-    few_replies = pow_at_most (output_bits_of bs) 6 few_outputs;
+    few_replies = pow_mono few_outputs;
     opened_inside = λ q x e. both_inside q _ x _ _ e;
     leads_from_inside = λ q x y p e. (legal q x y p e).0;
     leads_inside = λ q x y p e. (legal q x y p e).1;

@@ -11,8 +11,8 @@ use Rattle.std.specs.Option.{option_map}
 use Rattle.std.specs.declared.ops.Range.{Range}
 use Rattle.std.proofs.lemmas.Iterator.{YieldsList-from_range}
 use Rattle.std.proofs.lemmas.Iterator.Adapters.{option_map_id}
-use Rattle.std.proofs.lemmas.Iterator.Search.{find_from_yields_List}
-use Rattle.search.specs.First.{first, lowest}
+use Rattle.std.proofs.lemmas.Iterator.Search.{all_from_yields_List, find_from_yields_List}
+use Rattle.search.specs.First.{first, lowest, every}
 use Rattle.search.proofs.Searching.{first_none, first_here}
 use denote.Param.Members.{Mut}
 use denote.Ref.{Bor}
@@ -33,6 +33,16 @@ pub lowest_from_find :
 unfolding lowest
 lowest_from_find n m test u f r e computes ran =
     sym (option_map_id r) ∙ find_from_yields_List test u f r ran (YieldsList-from_range 0 m n refl (omega (arith, e))) computes
+
+-- `all` over the numbers below m, which is n, by its clause `ran`.
+pub every_from_all :
+    {F : Type 0} {g : Mut F (ℕ × Unit {0}) Bool} (n m : ℕ) (test : ℕ → Bool) (u : Range ℕ) (f : F) (r : Bool) → m ≡ n →
+    ((x : ℕ) (b : Bool) (q : F) → Called g f (x, tt) b q → (q ≡ f) × (b ≡ test x)) →
+    (xs : List ℕ) × (o : Option ℕ) × (j : F) × YieldsThen nat_range_steps (record { start = 0; end = m }) xs o u
+    × FoldsTo (λ p x q. Called g p (x, tt) true q) f xs j × MatchOption o (r ≡ true) (λ x. (r ≡ false) × ((h : F) × Called g j (x, tt) false h)) →
+    r ≡ every n test
+unfolding every
+every_from_all n m test u f r e computes ran = all_from_yields_List test u f r ran (YieldsList-from_range 0 m n refl (omega (arith, e))) computes
 
 module _ {F B : Type 0} {g : Mut F (ℕ × Unit {0}) (Option B)} (n : ℕ) (h : ℕ → Option B) (f : F)
     (computes : (x : ℕ) (o : Option B) (q : F) → Called g f (x, tt) o q → (q ≡ f) × (o ≡ h x))

@@ -49,12 +49,7 @@ fn solve<A: Arena>(heap: Global, arena: &A) -> Result<Verdicts, AllocError>
 fn starts_are_won<A: Arena>(arena: &A, winners: &[Player]) -> bool
     ensures { Decides result (StartsWon (A.goals arena.now) winners.now) }
 {
-    for state in 0..arena.states() {
-        if arena.is_start(state) && !is_won(winners, usize::from(state)) {
-            return false;
-        }
-    }
-    true
+    (0..arena.states()).all(|state| !arena.is_start(state) || is_won(winners, usize::from(state)))
 }
 
 // Whether the state is the controller's.
