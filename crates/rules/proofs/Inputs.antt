@@ -1,16 +1,16 @@
 -- The rows of the environment ask nothing of the reply.
-use Rattle.std.proofs.Common.{◌≡◌, ℕ, ◌+◌, ◌*◌, ◌^◌, ◌<◌, ◌≤◌, Bool, not, ◌||◌, eqb, List, sym, ap, ◌∙◌, subst, ap₂, arith}
+use Rattle.std.proofs.Common.{◌≡◌, ℕ, ◌+◌, ◌*◌, ◌^◌, ◌<◌, ◌≤◌, Bool, true, not, ◌||◌, eqb, List, sym, ap, ◌∙◌, subst, ap₂, arith}
 use lib.Bits.{bit_and, and_block, and_zero_l}
 use Rattle.image.specs.declared.kind.Kind.TheVariants.{Rules}
 use Rattle.image.specs.Bytes.{number_at}
 use Rattle.image.specs.Format.{input_bits_of}
 use Rattle.image.proofs.Fields.{next_mask}
 use Rattle.std.proofs.Math.Pow.{pow_mono}
-use Rattle.image.proofs.Sounding.{Sound}
-use Rattle.rules.specs.Games.{input_count, InputsAlone}
+use Rattle.image.proofs.Sounding.{sound}
+use Rattle.rules.specs.Games.{is_rules, input_count, InputsAlone}
 use Rattle.rules.specs.Rows.{row_count, row_at, masks_at_hold}
 use Rattle.rules.specs.Signals.{masks_hold}
-use Rattle.rules.proofs.Counting.{every_same}
+use Rattle.search.proofs.Searching.{every_same}
 use Rattle.rules.proofs.Masking.{masks_by_and}
 use Rattle.rules.specs.Ruling.{few_inputs}
 
@@ -35,8 +35,9 @@ low_masks_hold a t f x y few l m n =
     small_f : f < 65536
     small_f = omega (arith, m, pow_mono few)
 
-pub inputs_alone : (bs : List ℕ) → Sound Rules bs → InputsAlone bs
-inputs_alone bs s q x y l =
+pub inputs_alone : (bs : List ℕ) → is_rules bs ≡ true → InputsAlone bs
+inputs_alone bs e q x y l =
+    let s = sound Rules bs e in
     every_same (row_count bs 0) _ _
     (λ r m.
     ap (λ (b : Bool). masks_at_hold bs (row_at bs 0 r) q || b)

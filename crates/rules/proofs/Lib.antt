@@ -1,4 +1,3 @@
 pub mod Masking
-pub mod Counting
 pub mod Inputs
 pub mod Example

@@ -4,8 +4,7 @@ use Rattle.arena.specs.Game.{GameMoves, GameGoals}
 use Rattle.image.specs.declared.kind.Kind.TheVariants.{Rules}
 use Rattle.image.specs.Format.{input_bits_of, output_bits_of, state_bits_of, assumptions_of, guarantees_of}
 use Rattle.image.specs.Opening.{is_image}
-use Rattle.rules.specs.declared.row.Question.TheVariants.{Step, Member, Start}
-use Rattle.rules.specs.Rows.{rows_hold}
+use Rattle.rules.specs.Rows.{step_holds, member_holds, start_holds, rows_hold}
 
 -- The bytes are judged to be rules.
 abbrev pub is_rules : List ℕ → Bool
@@ -35,10 +34,10 @@ rules_moves bs = record {
   states = state_count bs;
   inputs = input_count bs;
   replies = reply_count bs;
-  opened = λ q x. nat_lt q (state_count bs) && (nat_lt x (input_count bs) && rows_hold bs 0 (Step q x));
+  opened = λ q x. nat_lt q (state_count bs) && (nat_lt x (input_count bs) && rows_hold bs 0 (step_holds q x));
   leads = λ q x y.
       cond
-      (nat_lt q (state_count bs) && (nat_lt x (input_count bs) && (nat_lt y (reply_count bs) && rows_hold bs 1 (Step q (state_from bs x y)))))
+      (nat_lt q (state_count bs) && (nat_lt x (input_count bs) && (nat_lt y (reply_count bs) && rows_hold bs 1 (step_holds q (state_from bs x y)))))
       (Some (state_from bs x y)) None;
 }
 
@@ -48,12 +47,12 @@ abbrev pub rules_goals : List ℕ → GameGoals
 rules_goals bs = record {
   assumptions = assumptions_of bs;
   guarantees = guarantees_of bs;
-  assumed = λ i q. nat_lt i (assumptions_of bs) && (nat_lt q (state_count bs) && rows_hold bs 2 (Member i q));
-  guaranteed = λ j q. nat_lt j (guarantees_of bs) && (nat_lt q (state_count bs) && rows_hold bs 3 (Member j q));
-  start = λ q. nat_lt q (state_count bs) && rows_hold bs 4 (Start q);
+  assumed = λ i q. nat_lt i (assumptions_of bs) && (nat_lt q (state_count bs) && rows_hold bs 2 (member_holds i q));
+  guaranteed = λ j q. nat_lt j (guarantees_of bs) && (nat_lt q (state_count bs) && rows_hold bs 3 (member_holds j q));
+  start = λ q. nat_lt q (state_count bs) && rows_hold bs 4 (start_holds q);
 }
 
 -- The rows of the environment ask nothing of the reply: whatever reply follows an input, they hold at the state of both exactly if
 -- they hold at the input alone.
 abbrev pub InputsAlone : List ℕ → Type 0
-InputsAlone bs = (q x y : ℕ) → x < input_count bs → rows_hold bs 0 (Step q (state_from bs x y)) ≡ rows_hold bs 0 (Step q x)
+InputsAlone bs = (q x y : ℕ) → x < input_count bs → rows_hold bs 0 (step_holds q (state_from bs x y)) ≡ rows_hold bs 0 (step_holds q x)

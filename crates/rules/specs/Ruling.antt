@@ -1,6 +1,6 @@
 -- What holds of the bytes of rules, and that the game they spell is lawful.
-use Rattle.std.specs.Prelude.{◌≡◌, ℕ, ◌+◌, ◌*◌, ◌<◌, ◌≤◌, true, ◌&&◌, List, Some, nat_lt}
-use Rattle.std.proofs.Common.{sym, subst, arith}
+use Rattle.std.specs.Prelude.{◌≡◌, ℕ, ◌*◌, ◌<◌, ◌≤◌, true, ◌&&◌, List, Some, nat_lt}
+use Rattle.std.proofs.Common.{subst, arith}
 use Rattle.std.proofs.lemmas.Nat.{pow_pos, pow-add, mul-add-lt}
 use Rattle.std.proofs.Math.Pow.{pow_mono}
 use Rattle.std.proofs.lemmas.Bool.{and_parts, ltb-true, ltb-false}
@@ -25,12 +25,6 @@ module _ (bs : List ℕ) (s : Sound Rules bs) where
 
   pub few_signals : state_bits_of bs ≤ 10
   few_signals = ltb-false 10 (state_bits_of bs) (few_bits Rules bs s 1 (omega arith))
-
-  -- The state of an input and a reply, by the counts that were read, fits two bytes.
-  pub state_small : (n r x y : ℕ) → n ≡ input_count bs → r ≡ reply_count bs → x < n → y < r → x + n * y < 1024
-  state_small n r x y e f l m =
-      subst (λ (k : ℕ). x + k * y < 1024) (sym e)
-      (omega (arith, state_inside bs x y (omega (arith, e, l)) (omega (arith, f, m)), pow_mono few_signals))
 
   -- A reply that leads somewhere is one of the game's, and so is where it leads.
   legal :
@@ -70,6 +64,15 @@ module _ (bs : List ℕ) (s : Sound Rules bs) where
     guaranteed_inside = λ j q e. both_inside j _ q _ _ e;
     starts_inside = λ q e. ltb-true _ _ (and_parts _ _ e).0;
   }
+
+-- Bytes that are judged to be rules have few signals.
+pub rules_few_signals : (bs : List ℕ) → is_rules bs ≡ true → state_bits_of bs ≤ 10
+rules_few_signals bs e = few_signals bs (sound Rules bs e)
+
+-- And few inputs and replies together.
+pub rules_few_choices : (bs : List ℕ) → is_rules bs ≡ true → input_count bs * reply_count bs ≤ 1024
+rules_few_choices bs e =
+    omega (arith, pow-add 2 (input_bits_of bs) (output_bits_of bs), pow_at_most (state_bits_of bs) 10 (rules_few_signals bs e))
 
 -- Bytes that are judged to be rules spell lawful moves.
 pub rules_moves_lawful : (bs : List ℕ) → is_rules bs ≡ true → LawfulMoves (rules_moves bs)

@@ -1,15 +1,14 @@
-ghost use Rattle.std.specs.Prelude.{◌≡◌, ◌^◌, ◌≤◌, true};
-ghost use Rattle.image.specs.Bytes.{number_at};
+ghost use Rattle.std.specs.Prelude.{◌≡◌, ◌*◌, ◌^◌, ◌≤◌, ℕ, Bool, List, true};
 ghost use Rattle.image.specs.Opening.{bytes_as};
 ghost use Rattle.rules.specs.Games.{is_rules, state_count, input_count, reply_count, rules_moves, rules_goals, InputsAlone};
 ghost use Rattle.rules.specs.Rows.{rows_hold};
 ghost use Rattle.rules.specs.Ruling.{rules_moves_lawful, rules_goals_lawful};
 
-use crate::row::{Question, Rows};
+use crate::row::Row;
 use arena::{Arena, Moves};
 use image::{
     ASSUMPTION_ROWS, ASSUMPTION_SETS, CONTROLLER_ROWS, ENVIRONMENT_ROWS, GUARANTEE_ROWS,
-    GUARANTEE_SETS, INPUT_BITS, Judged, Kind, OUTPUT_BITS, START_ROWS, number,
+    GUARANTEE_SETS, INPUT_BITS, Judged, Kind, OUTPUT_BITS, START_ROWS, Section, number, row_width,
 };
 
 /// A game that rules over signals spell. Every question reads the caller's bytes.
@@ -21,37 +20,25 @@ pub struct Rules<'a> {
 
 impl<'a> Rules<'a> {
     /// The rules of an image, or the built-in rules where the image is of another kind.
+    #[tactic(auto, using(crate::proofs::Inputs::inputs_alone))]
     pub fn of(image: Judged<'a>) -> Rules<'a>
         ensures bytes { result.bytes.now ≡ bytes_as Kind.Rules image.entry.kind image.entry.bytes.now }
         ensures alone { InputsAlone result.bytes.now }
     {
-        let rules = Rules {
+        Rules {
             bytes: image.bytes_as(Kind::Rules),
-        };
-        rules.environment_rows_ask_nothing_of_the_reply();
-        rules
-    }
-
-    // A theorem has nothing to run: its contract hands it to the caller.
-    fn environment_rows_ask_nothing_of_the_reply(&self)
-        ensures { InputsAlone self.now.bytes.now }
-    {}
-
-    // The number of the header at this offset.
-    fn header(&self, at: usize) -> u16
-        ensures { result ≡ number_at self.now.bytes.now at }
-    {
-        number(self.bytes, at)
+        }
     }
 
     // The counts, by each of the two header numbers read once.
+    #[tactic(auto, using(crate::specs::Ruling::rules_few_signals, crate::specs::Ruling::rules_few_choices))]
     fn counts(&self) -> Counts
         ensures states { result.states ≡ state_count self.now.bytes.now }
         ensures inputs { result.inputs ≡ input_count self.now.bytes.now }
         ensures replies { result.replies ≡ reply_count self.now.bytes.now }
     {
-        let input_bits = self.header(INPUT_BITS);
-        let output_bits = self.header(OUTPUT_BITS);
+        let input_bits = number(self.bytes, INPUT_BITS);
+        let output_bits = number(self.bytes, OUTPUT_BITS);
         Counts {
             states: two_to(input_bits + output_bits),
             inputs: two_to(input_bits),
@@ -59,20 +46,26 @@ impl<'a> Rules<'a> {
         }
     }
 
-    // Whether every row of a section holds.
-    fn rows_hold(&self, pair: u8, asked: Question) -> bool
-        ensures { result ≡ rows_hold self.now.bytes.now pair asked }
+    // Whether every row of a section holds, by the test that the closure is; the first row that fails it decides.
+    fn every_row<F: Fn(Row) -> bool>(&self, pair: u8, holds: F) -> bool
+        requires { F.IsAlwaysCallable holds }
+        ensures { (test : List ℕ → ℕ → Bool) → ((row : Row) (b : Bool) → F.post holds row b → b ≡ test row.bytes.now row.at) → result ≡ rows_hold self.now.bytes.now pair test }
     {
-        Rows::of(self.bytes, pair).hold(asked)
+        let section = Section::read(self.bytes, pair);
+        let width = row_width(pair);
+        (0..section.size / width)
+            .map(|row| Row::at(self.bytes, section.offset + width * row))
+            .all(holds)
     }
 }
 
-// How many states, inputs and replies there are.
+// How many states, inputs and replies there are; each state is an input and a reply.
 #[derive(Clone, Copy)]
 struct Counts {
     states: u16,
     inputs: u16,
     replies: u16,
+    ghost few: { inputs * replies ≤ 1024 },
 }
 
 // How many choices there are of so many signals.
@@ -100,14 +93,9 @@ impl<'a> Moves for Rules<'a> {
 
     fn is_open(&self, state: u16, input: u16) -> bool {
         let counts = self.counts();
-        if state >= counts.states || input >= counts.inputs {
-            return false;
-        }
-        let step = Question::Step {
-            current: state,
-            next: input,
-        };
-        self.rows_hold(ENVIRONMENT_ROWS, step)
+        state < counts.states
+            && input < counts.inputs
+            && self.every_row(ENVIRONMENT_ROWS, |row| row.holds_at_step(state, input))
     }
 
     fn leads(&self, state: u16, input: u16, reply: u16) -> Option<u16> {
@@ -116,11 +104,8 @@ impl<'a> Moves for Rules<'a> {
             return None;
         }
         let next = input + counts.inputs * reply;
-        let step = Question::Step {
-            current: state,
-            next,
-        };
-        self.rows_hold(CONTROLLER_ROWS, step).then_some(next)
+        self.every_row(CONTROLLER_ROWS, |row| row.holds_at_step(state, next))
+            .then_some(next)
     }
 
     ghost lawful = { λ t. rules_moves_lawful t.bytes.now t.lawful };
@@ -130,32 +115,27 @@ impl<'a> Arena for Rules<'a> {
     ghost goals = { λ t. rules_goals t.bytes.now };
 
     fn assumptions(&self) -> u16 {
-        self.header(ASSUMPTION_SETS)
+        number(self.bytes, ASSUMPTION_SETS)
     }
 
     fn guarantees(&self) -> u16 {
-        self.header(GUARANTEE_SETS)
+        number(self.bytes, GUARANTEE_SETS)
     }
 
     fn in_assumption(&self, set: u16, state: u16) -> bool {
-        if set >= self.assumptions() || state >= self.states() {
-            return false;
-        }
-        self.rows_hold(ASSUMPTION_ROWS, Question::Member { set, state })
+        set < self.assumptions()
+            && state < self.states()
+            && self.every_row(ASSUMPTION_ROWS, |row| row.holds_in_set(set, state))
     }
 
     fn in_guarantee(&self, set: u16, state: u16) -> bool {
-        if set >= self.guarantees() || state >= self.states() {
-            return false;
-        }
-        self.rows_hold(GUARANTEE_ROWS, Question::Member { set, state })
+        set < self.guarantees()
+            && state < self.states()
+            && self.every_row(GUARANTEE_ROWS, |row| row.holds_in_set(set, state))
     }
 
     fn is_start(&self, state: u16) -> bool {
-        if state >= self.states() {
-            return false;
-        }
-        self.rows_hold(START_ROWS, Question::Start { state })
+        state < self.states() && self.every_row(START_ROWS, |row| row.holds_at(state))
     }
 
     ghost lawful = { λ t. rules_goals_lawful t.bytes.now t.lawful };
