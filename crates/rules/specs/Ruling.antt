@@ -72,7 +72,7 @@ rules_few_signals bs e = few_signals bs (sound Rules bs e)
 -- And few inputs and replies together.
 pub rules_few_choices : (bs : List ℕ) → is_rules bs ≡ true → input_count bs * reply_count bs ≤ 1024
 rules_few_choices bs e =
-    omega (arith, pow-add 2 (input_bits_of bs) (output_bits_of bs), pow_at_most (state_bits_of bs) 10 (rules_few_signals bs e))
+    omega (arith, pow-add 2 (input_bits_of bs) (output_bits_of bs), pow_mono (rules_few_signals bs e))
 
 -- Bytes that are judged to be rules spell lawful moves.
 pub rules_moves_lawful : (bs : List ℕ) → is_rules bs ≡ true → LawfulMoves (rules_moves bs)

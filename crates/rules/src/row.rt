@@ -1,4 +1,4 @@
-ghost use Rattle.std.specs.Prelude.{◌≡◌, ◌+◌, ◌^◌, ◌<◌, ◌≤◌, not, ◌||◌, ◌==◌, bit_and};
+ghost use Rattle.std.specs.Prelude.{◌≡◌, ◌+◌, ◌^◌, ◌<◌, ◌≤◌};
 ghost use Rattle.image.specs.Bytes.{number_at};
 ghost use Rattle.rules.specs.Rows.{step_holds, member_holds, start_holds};
 ghost use Rattle.rules.specs.Signals.{masks_hold};

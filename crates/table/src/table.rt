@@ -1,8 +1,7 @@
-ghost use Rattle.std.specs.Prelude.{◌≡◌, ◌+◌, ◌*◌, ◌^◌, ◌<◌, true, ◌&&◌, nat_lt, slice_index};
-ghost use Rattle.image.specs.Bytes.{number_at};
-ghost use Rattle.image.specs.Format.{states_of, inputs_of, replies_of, table_sizes};
+ghost use Rattle.std.specs.Prelude.{◌≡◌, ◌+◌, ◌*◌, ◌^◌, ◌<◌, true, ◌&&◌, cond, Some, None, IfSome, nat_lt, slice_index};
+ghost use Rattle.image.specs.Format.{table_sizes};
 ghost use Rattle.image.specs.Opening.{bytes_as};
-ghost use Rattle.table.specs.Tables.{is_table, table_moves, table_goals, flag_at, target_at};
+ghost use Rattle.table.specs.Tables.{is_table, table_moves, table_goals, flag_at};
 ghost use Rattle.table.specs.Tabling.{table_moves_lawful, table_goals_lawful};
 
 use arena::{Arena, Moves};
@@ -28,74 +27,75 @@ impl<'a> Table<'a> {
         }
     }
 
-    // The number of the header at this offset.
-    fn header(&self, at: usize) -> u16
-        ensures { result ≡ number_at self.now.bytes.now at }
-    {
-        number(self.bytes, at)
-    }
-
     // Whether the flag of a section at this row and column says yes; outside its rows and columns there is none.
-    fn flag(&self, pair: u8, row: u16, rows: u16, column: u16, columns: u16) -> bool
+    #[tactic(auto, using(crate::specs::Tabling::table_flag_inside))]
+    fn flag(&self, pair: u8, row: Index, column: Index) -> bool
         requires section { pair < 5 }
-        requires cells { slice_index (table_sizes self.now.bytes.now) pair ≡ rows * columns }
-        ensures { result ≡ (nat_lt row rows && (nat_lt column columns && flag_at self.now.bytes.now pair (row * columns + column))) }
+        requires cells { slice_index (table_sizes self.now.bytes.now) pair ≡ row.count * column.count }
+        ensures { result ≡ (nat_lt row.value row.count && (nat_lt column.value column.count && flag_at self.now.bytes.now pair (row.value * column.count + column.value))) }
     {
-        if row >= rows || column >= columns {
-            return false;
+        if let Some(row) = row.in_row(0)
+            && let Some(cell) = column.in_row(row)
+        {
+            let at = Section::read(self.bytes, pair).offset + cell;
+            self.bytes[at] == 1
+        } else {
+            false
         }
-        let at = Section::read(self.bytes, pair).offset
-            + cell_index(usize::from(row), columns, column);
-        self.bytes[at] == 1
-    }
-
-    // Where a reply leads, as a number of the next states.
-    fn next_number(&self, state: u16, input: u16, reply: u16) -> u16
-        requires inside_states { state < states_of self.now.bytes.now }
-        requires inside_inputs { input < inputs_of self.now.bytes.now }
-        requires inside_replies { reply < replies_of self.now.bytes.now }
-        ensures { result ≡ target_at self.now.bytes.now state input reply }
-    {
-        let row = cell_index(usize::from(state), self.inputs(), input);
-        let at = Section::read(self.bytes, NEXT_STATES).offset
-            + 2 * cell_index(row, self.replies(), reply);
-        number(self.bytes, at)
     }
 }
 
-// The number of the cell at a row and a column.
-fn cell_index(row: usize, columns: u16, column: u16) -> usize
-    requires { row < 2 ^ 32 }
-    ensures value { result ≡ row * columns + column }
-    ensures small { result < 2 ^ 48 }
-{
-    row * usize::from(columns) + usize::from(column)
+// A number, and how many there are of its kind.
+#[derive(Clone, Copy)]
+struct Index {
+    value: u16,
+    count: u16,
+}
+
+impl Index {
+    fn new(value: u16, count: u16) -> Index
+        ensures { (result.value ≡ value) × (result.count ≡ count) }
+    {
+        Index { value, count }
+    }
+
+    // The number of the cell in this column of a row; past the last column there is none.
+    fn in_row(self, row: usize) -> Option<usize>
+        requires { row < 2 ^ 32 }
+        ensures small { IfSome result (λ cell. cell < 2 ^ 48) }
+        ensures value { result ≡ cond (nat_lt self.value self.count) (Some (row * self.count + self.value)) None }
+    {
+        (self.value < self.count).then(|| row * usize::from(self.count) + usize::from(self.value))
+    }
 }
 
 impl<'a> Moves for Table<'a> {
     ghost moves = { λ t. table_moves t.bytes.now };
 
     fn states(&self) -> u16 {
-        self.header(STATES)
+        number(self.bytes, STATES)
     }
 
     fn inputs(&self) -> u16 {
-        self.header(INPUTS)
+        number(self.bytes, INPUTS)
     }
 
     fn replies(&self) -> u16 {
-        self.header(REPLIES)
+        number(self.bytes, REPLIES)
     }
 
     fn is_open(&self, state: u16, input: u16) -> bool {
-        self.flag(OPEN_FLAGS, state, self.states(), input, self.inputs())
+        let state = Index::new(state, self.states());
+        let input = Index::new(input, self.inputs());
+        self.flag(OPEN_FLAGS, state, input)
     }
 
     fn leads(&self, state: u16, input: u16, reply: u16) -> Option<u16> {
-        if state >= self.states() || input >= self.inputs() || reply >= self.replies() {
-            return None;
-        }
-        match self.next_number(state, input, reply) {
+        let row = Index::new(state, self.states()).in_row(0)?;
+        let row = Index::new(input, self.inputs()).in_row(row)?;
+        let cell = Index::new(reply, self.replies()).in_row(row)?;
+        let at = Section::read(self.bytes, NEXT_STATES).offset + 2 * cell;
+        match number(self.bytes, at) {
             BARRED => None,
             next => Some(next),
         }
@@ -108,23 +108,27 @@ impl<'a> Arena for Table<'a> {
     ghost goals = { λ t. table_goals t.bytes.now };
 
     fn assumptions(&self) -> u16 {
-        self.header(ASSUMPTION_SETS)
+        number(self.bytes, ASSUMPTION_SETS)
     }
 
     fn guarantees(&self) -> u16 {
-        self.header(GUARANTEE_SETS)
+        number(self.bytes, GUARANTEE_SETS)
     }
 
     fn in_assumption(&self, set: u16, state: u16) -> bool {
-        self.flag(ASSUMPTIONS, set, self.assumptions(), state, self.states())
+        let set = Index::new(set, self.assumptions());
+        let state = Index::new(state, self.states());
+        self.flag(ASSUMPTIONS, set, state)
     }
 
     fn in_guarantee(&self, set: u16, state: u16) -> bool {
-        self.flag(GUARANTEES, set, self.guarantees(), state, self.states())
+        let set = Index::new(set, self.guarantees());
+        let state = Index::new(state, self.states());
+        self.flag(GUARANTEES, set, state)
     }
 
     fn is_start(&self, state: u16) -> bool {
-        self.flag(STARTS, 0, 1, state, self.states())
+        self.flag(STARTS, Index::new(0, 1), Index::new(state, self.states()))
     }
 
     ghost lawful = { λ t. table_goals_lawful t.bytes.now t.lawful };
