@@ -9,6 +9,7 @@ use Rattle.rules.specs.Signals.{has, masks_hold}
 use Rattle.search.specs.First.{some}
 use Rattle.search.proofs.Searching.{some_more}
 
+-- A bit is 0 or 1.
 bit_below : (n k : ℕ) → bit_at n k < 2
 bit_below n k = mod_below (n / 2 ^ k) 2 (omega arith)
 

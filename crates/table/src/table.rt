@@ -53,6 +53,7 @@ struct Index {
 }
 
 impl Index {
+    // A number beside its count; it need not be below it.
     fn new(value: u16, count: u16) -> Index
         ensures { (result.value ≡ value) × (result.count ≡ count) }
     {
