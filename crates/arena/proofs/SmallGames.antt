@@ -1,5 +1,6 @@
 -- Who wins the small games.
 use Rattle.std.proofs.Common.{◌≡◌, ℕ, zero, suc, ◌<◌, Bool, true, false, cond, ◌&&◌, eqb, ltb, [], ◌∷◌, Some, None, sym, refl, ◌∙◌, arith}
+use Rattle.std.proofs.lemmas.Option.{none-some}
 use Rattle.std.proofs.lemmas.Bool.{and_parts, and_from, eqb-true, eq-eqb, lt-ltb, cond-true, false≢true}
 use Rattle.arena.specs.Play.{Past, Reaches, Play, Again}
 use Rattle.arena.specs.Winner.{ControllerWinsBy, EnvironmentWinsBy}
@@ -8,7 +9,7 @@ use Rattle.arena.specs.Examples.{one_state, OneState, OneStateLawful, OneStateBa
 -- A reply that leads somewhere under a test passed the test, and led where it says.
 led : (b : Bool) (n p : ℕ) → cond b (Some n) None ≡ Some p → (b ≡ true) × (n ≡ p)
 led true n p e = (refl, (cc))
-led false n p e = let z : ◌≡◌ {A = ℕ} 0 1 = cc in absurd (omega arith)
+led false n p e = absurd (none-some p e)
 
 -- ── The game of one state ──────────────────────────────────────────────────────────────────────
 module _ (o l a g : Bool) where

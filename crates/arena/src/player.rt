@@ -11,25 +11,15 @@ pub enum Player {
 
 impl Player {
     /// The other side. No state of any game is won by both, and each side wins small games that are known to be its own.
+    #[tactic(auto, using(crate::proofs::NotBoth::not_both, crate::proofs::SmallGames::known))]
     pub fn opponent(self) -> Player
         ensures value { result ≡ other self }
         ensures not_both { NotBoth }
         ensures known { Known }
     {
-        no_state_is_won_by_both();
-        the_small_games_are_won_as_known();
         match self {
             Player::Controller => Player::Environment,
             Player::Environment => Player::Controller,
         }
     }
 }
-
-// Theorems have nothing to run: their contracts hand them to the caller.
-fn no_state_is_won_by_both()
-    ensures { NotBoth }
-{}
-
-fn the_small_games_are_won_as_known()
-    ensures { Known }
-{}

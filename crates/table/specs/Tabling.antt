@@ -3,6 +3,7 @@ use Rattle.std.specs.Prelude.{◌≡◌, ℕ, ◌+◌, ◌*◌, ◌/◌, ◌<◌
 use Rattle.std.proofs.Common.{sym, ◌∙◌, ⊎_elim, arith}
 use Rattle.std.proofs.lemmas.Bool.{and_parts, or_cases, false≢true, ltb-true, eqb-true}
 use Rattle.std.proofs.lemmas.Nat.{mul-add-lt}
+use Rattle.std.proofs.lemmas.Option.{none-some}
 use Rattle.arena.specs.Game.{LawfulMoves, LawfulGoals}
 use Rattle.image.specs.declared.kind.Kind.TheVariants.{Table}
 use Rattle.image.specs.Format.{states_of, inputs_of, replies_of, section_at, section_size, table_sizes}
@@ -36,7 +37,7 @@ module _ (bs : List ℕ) (s : Sound Table bs) where
       named n h t = go (n == 65535) refl t
         where
           go : (b : Bool) → (n == 65535) ≡ b → cond b None (Some n) ≡ Some p → p < states_of bs
-          go true f u = let z : ◌≡◌ {A = ℕ} 0 1 = cc in absurd (omega arith)
+          go true f u = absurd (none-some p u)
           go false f u =
               ⊎_elim (λ (l : ltb n (states_of bs) ≡ true). let same : n ≡ p = cc in omega (arith, ltb-true _ _ l))
               (λ (g : nat_eq n 65535 ≡ true). absurd (false≢true (sym f ∙ g))) (or_cases _ _ h)
