@@ -1,6 +1,6 @@
 -- What holds of the bytes of rules, and that the game they spell is lawful.
-use Rattle.std.specs.Prelude.{◌≡◌, ℕ, ◌*◌, ◌<◌, ◌≤◌, true, ◌&&◌, List, Some, nat_lt}
-use Rattle.std.proofs.Common.{subst, arith}
+use Rattle.std.specs.Prelude.{◌≡◌, ℕ, ◌+◌, ◌*◌, ◌<◌, ◌≤◌, true, ◌&&◌, List, Some, nat_lt}
+use Rattle.std.proofs.Common.{sym, subst, arith}
 use Rattle.std.proofs.lemmas.Nat.{pow_pos, pow-add, mul-add-lt}
 use Rattle.std.proofs.Math.Pow.{pow_mono}
 use Rattle.std.proofs.lemmas.Bool.{and_parts, ltb-true, ltb-false}
@@ -25,6 +25,12 @@ module _ (bs : List ℕ) (s : Sound Rules bs) where
 
   pub few_signals : state_bits_of bs ≤ 10
   few_signals = ltb-false 10 (state_bits_of bs) (few_bits Rules bs s 1 (omega arith))
+
+  -- The state of an input and a reply, by the counts that were read, fits two bytes.
+  pub state_small : (n r x y : ℕ) → n ≡ input_count bs → r ≡ reply_count bs → x < n → y < r → x + n * y < 1024
+  state_small n r x y e f l m =
+      subst (λ (k : ℕ). x + k * y < 1024) (sym e)
+      (omega (arith, state_inside bs x y (omega (arith, e, l)) (omega (arith, f, m)), pow_mono few_signals))
 
   -- A reply that leads somewhere is one of the game's, and so is where it leads.
   legal :

@@ -16,6 +16,12 @@ module _ (bs : List ℕ) (s : Sound Table bs) where
   exactly_sized : (i : ℕ) → i < 5 → section_size bs i ≡ slice_index (table_sizes bs) i
   exactly_sized i l = eqb-true _ _ (sized Table bs s i l)
 
+  -- The cell of a row and a column of flags lies in the image.
+  pub flag_inside :
+      (i row rows column columns : ℕ) → i < 5 → slice_index (table_sizes bs) i ≡ rows * columns → row < rows → column < columns →
+      section_at bs i + (row * columns + column) < length bs
+  flag_inside i row rows column columns l e r c = omega (arith, mul-add-lt row columns column rows r c, exactly_sized i l, inside Table bs s i l)
+
   -- The cell of a state, an input and a reply is one of the next states.
   target_counted :
       (q x y : ℕ) → q < states_of bs → x < inputs_of bs → y < replies_of bs →
@@ -79,13 +85,11 @@ module _ (bs : List ℕ) (s : Sound Table bs) where
     starts_inside = λ q e. ltb-true _ _ (and_parts _ _ e).0;
   }
 
--- In bytes that are judged to be a table, the cell of a row and a column of flags lies in the image.
+-- So it does in bytes that are judged to be a table.
 pub table_flag_inside :
     (bs : List ℕ) (i row rows column columns : ℕ) → is_table bs ≡ true → i < 5 → slice_index (table_sizes bs) i ≡ rows * columns →
     row < rows → column < columns → section_at bs i + (row * columns + column) < length bs
-table_flag_inside bs i row rows column columns e l cells r c =
-    let s = sound Table bs e in
-    omega (arith, mul-add-lt row columns column rows r c, exactly_sized bs s i l, inside Table bs s i l)
+table_flag_inside bs i row rows column columns e = flag_inside bs (sound Table bs e) i row rows column columns
 
 -- Bytes that are judged to be a table spell lawful moves.
 pub table_moves_lawful : (bs : List ℕ) → is_table bs ≡ true → LawfulMoves (table_moves bs)
