@@ -28,42 +28,37 @@ impl<'a> Image<'a> {
     }
 }
 
+// Asks the arena of either kind.
+macro_rules! ask {
+    ($image:expr, $question:ident($($number:expr),*)) => {
+        match $image {
+            Image::Table(table) => table.$question($($number),*),
+            Image::Rules(rules) => rules.$question($($number),*),
+        }
+    };
+}
+
 impl<'a> Moves for Image<'a> {
     ghost moves = { image_moves };
 
     fn states(&self) -> u16 {
-        match self {
-            Image::Table(table) => table.states(),
-            Image::Rules(rules) => rules.states(),
-        }
+        ask!(self, states())
     }
 
     fn inputs(&self) -> u16 {
-        match self {
-            Image::Table(table) => table.inputs(),
-            Image::Rules(rules) => rules.inputs(),
-        }
+        ask!(self, inputs())
     }
 
     fn replies(&self) -> u16 {
-        match self {
-            Image::Table(table) => table.replies(),
-            Image::Rules(rules) => rules.replies(),
-        }
+        ask!(self, replies())
     }
 
     fn is_open(&self, state: u16, input: u16) -> bool {
-        match self {
-            Image::Table(table) => table.is_open(state, input),
-            Image::Rules(rules) => rules.is_open(state, input),
-        }
+        ask!(self, is_open(state, input))
     }
 
     fn leads(&self, state: u16, input: u16, reply: u16) -> Option<u16> {
-        match self {
-            Image::Table(table) => table.leads(state, input, reply),
-            Image::Rules(rules) => rules.leads(state, input, reply),
-        }
+        ask!(self, leads(state, input, reply))
     }
 
     ghost lawful = { image_moves_lawful };
@@ -73,38 +68,23 @@ impl<'a> Arena for Image<'a> {
     ghost goals = { image_goals };
 
     fn assumptions(&self) -> u16 {
-        match self {
-            Image::Table(table) => table.assumptions(),
-            Image::Rules(rules) => rules.assumptions(),
-        }
+        ask!(self, assumptions())
     }
 
     fn guarantees(&self) -> u16 {
-        match self {
-            Image::Table(table) => table.guarantees(),
-            Image::Rules(rules) => rules.guarantees(),
-        }
+        ask!(self, guarantees())
     }
 
     fn in_assumption(&self, set: u16, state: u16) -> bool {
-        match self {
-            Image::Table(table) => table.in_assumption(set, state),
-            Image::Rules(rules) => rules.in_assumption(set, state),
-        }
+        ask!(self, in_assumption(set, state))
     }
 
     fn in_guarantee(&self, set: u16, state: u16) -> bool {
-        match self {
-            Image::Table(table) => table.in_guarantee(set, state),
-            Image::Rules(rules) => rules.in_guarantee(set, state),
-        }
+        ask!(self, in_guarantee(set, state))
     }
 
     fn is_start(&self, state: u16) -> bool {
-        match self {
-            Image::Table(table) => table.is_start(state),
-            Image::Rules(rules) => rules.is_start(state),
-        }
+        ask!(self, is_start(state))
     }
 
     ghost lawful = { image_goals_lawful };
