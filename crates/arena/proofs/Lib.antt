@@ -1,2 +1,3 @@
 pub mod NotBoth
 pub mod SmallGames
+pub mod Guarded

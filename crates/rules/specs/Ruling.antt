@@ -5,9 +5,9 @@ use Rattle.std.proofs.lemmas.Nat.{pow_pos, pow-add, mul-add-lt}
 use Rattle.std.proofs.Math.Pow.{pow_mono}
 use Rattle.std.proofs.lemmas.Bool.{and_parts, ltb-true, ltb-false}
 use Rattle.arena.specs.Game.{LawfulMoves, LawfulGoals}
+use Rattle.arena.proofs.Guarded.{both_inside, given_where, guarded_goals_lawful}
 use Rattle.image.specs.declared.kind.Kind.TheVariants.{Rules}
 use Rattle.image.specs.Format.{input_bits_of, output_bits_of, state_bits_of}
-use Rattle.image.proofs.Numbers.{both_inside, given_where}
 use Rattle.image.proofs.Sounding.{Sound, sound, at_least, at_most, few_bits}
 use Rattle.rules.specs.Games.{is_rules, state_count, input_count, reply_count, state_from, rules_moves, rules_goals}
 
@@ -61,15 +61,9 @@ module _ (bs : List ℕ) (s : Sound Rules bs) where
   }
 
   pub lawful_goals : LawfulGoals (state_count bs) (rules_goals bs)
-  lawful_goals = record {
-    some_assumption = at_least Rules bs s 3 (omega arith);
-    few_assumptions = at_most Rules bs s 3 (omega arith);
-    some_guarantee = at_least Rules bs s 4 (omega arith);
-    few_guarantees = at_most Rules bs s 4 (omega arith);
-    assumed_inside = λ i q e. both_inside i _ q _ _ e;
-    guaranteed_inside = λ j q e. both_inside j _ q _ _ e;
-    starts_inside = λ q e. ltb-true _ _ (and_parts _ _ e).0;
-  }
+  lawful_goals =
+      guarded_goals_lawful _ _ _ _ _ _ (at_least Rules bs s 3 (omega arith)) (at_most Rules bs s 3 (omega arith)) (at_least Rules bs s 4 (omega arith))
+      (at_most Rules bs s 4 (omega arith))
 
 -- Bytes that are judged to be rules have few signals.
 pub rules_few_signals : (bs : List ℕ) → is_rules bs ≡ true → state_bits_of bs ≤ 10

@@ -5,9 +5,9 @@ use Rattle.std.proofs.lemmas.Bool.{and_parts, or_cases, false≢true, ltb-true, 
 use Rattle.std.proofs.lemmas.Nat.{mul-add-lt}
 use Rattle.std.proofs.lemmas.Option.{none-some}
 use Rattle.arena.specs.Game.{LawfulMoves, LawfulGoals}
+use Rattle.arena.proofs.Guarded.{both_inside, given_where, guarded_goals_lawful}
 use Rattle.image.specs.declared.kind.Kind.TheVariants.{Table}
 use Rattle.image.specs.Format.{states_of, inputs_of, replies_of, section_at, section_size, table_sizes}
-use Rattle.image.proofs.Numbers.{both_inside, given_where}
 use Rattle.image.proofs.Sounding.{Sound, sound, at_least, at_most, sized, inside, cell_allowed}
 use Rattle.table.specs.Tables.{is_table, target_at, target_of, table_moves, table_goals}
 
@@ -75,15 +75,9 @@ module _ (bs : List ℕ) (s : Sound Table bs) where
   }
 
   pub lawful_goals : LawfulGoals (states_of bs) (table_goals bs)
-  lawful_goals = record {
-    some_assumption = at_least Table bs s 3 (omega arith);
-    few_assumptions = at_most Table bs s 3 (omega arith);
-    some_guarantee = at_least Table bs s 4 (omega arith);
-    few_guarantees = at_most Table bs s 4 (omega arith);
-    assumed_inside = λ i q e. both_inside i _ q _ _ e;
-    guaranteed_inside = λ j q e. both_inside j _ q _ _ e;
-    starts_inside = λ q e. ltb-true _ _ (and_parts _ _ e).0;
-  }
+  lawful_goals =
+      guarded_goals_lawful _ _ _ _ _ _ (at_least Table bs s 3 (omega arith)) (at_most Table bs s 3 (omega arith)) (at_least Table bs s 4 (omega arith))
+      (at_most Table bs s 4 (omega arith))
 
 -- So it does in bytes that are judged to be a table.
 pub table_flag_inside :
