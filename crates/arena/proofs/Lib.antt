@@ -1,3 +1,4 @@
 pub mod NotBoth
 pub mod SmallGames
 pub mod Guarded
+pub mod Same

@@ -3,6 +3,7 @@ use Rattle.std.proofs.Common.{◌≡◌, ℕ, ◌+◌, ◌*◌, ◌%◌, Bool, c
 use Rattle.rules.specs.Games.{rules_moves, rules_goals, state_from}
 use Rattle.rules.specs.Rows.{step_holds, member_holds, start_holds, rows_hold}
 use Rattle.rules.specs.Worked.{Worked, worked_bytes, worked_game}
+use Rattle.arena.proofs.Same.{same_game}
 use Rattle.search.specs.First.{every, first, lowest, some}
 use Rattle.search.proofs.Comparing.{one, two, three}
 
@@ -32,15 +33,5 @@ pub worked : Worked
 unfolding first lowest
 worked = record {
   lawful = refl;
-  spells = λ i.
-      record {
-        moves = record { states = 4; inputs = 2; replies = 2; opened = λ q x. opened q x i; leads = λ q x y. leads q x y i };
-        goals = record {
-          assumptions = 1;
-          guarantees = 1;
-          assumed = λ j q. assumed j q i;
-          guaranteed = λ j q. guaranteed j q i;
-          start = λ q. start q i;
-        };
-      };
+  spells = same_game _ _ refl refl refl opened leads refl refl assumed guaranteed start;
 }

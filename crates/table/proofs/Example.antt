@@ -3,6 +3,7 @@ use Rattle.std.proofs.Common.{◌≡◌, ℕ, ◌+◌, ◌*◌, Bool, true, fals
 use Rattle.std.proofs.Math.Bool.{and-true}
 use Rattle.std.proofs.lemmas.Bool.{eqb-true, false≢true}
 use Rattle.std.proofs.lemmas.Bool.Decides.{nat_tests}
+use Rattle.arena.proofs.Same.{same_game}
 use Rattle.search.specs.First.{every, first, lowest}
 use Rattle.search.proofs.Comparing.{one, two, three}
 use Rattle.table.specs.Tables.{flag_at, target_at, target_of, table_moves, table_goals}
@@ -55,15 +56,5 @@ pub worked : Worked
 unfolding first lowest
 worked = record {
   lawful = refl;
-  spells = λ i.
-      record {
-        moves = record { states = 2; inputs = 1; replies = 2; opened = λ q x. opened q x i; leads = λ q x y. leads q x y i };
-        goals = record {
-          assumptions = 1;
-          guarantees = 1;
-          assumed = λ j q. assumed j q i;
-          guaranteed = λ j q. guaranteed j q i;
-          start = λ q. start q i;
-        };
-      };
+  spells = same_game _ _ refl refl refl opened leads refl refl assumed guaranteed start;
 }
