@@ -7,14 +7,10 @@ use std::fs;
 use verdict::{answer_image, answer_text};
 
 fn main(rt: HostRuntime) -> anyhow::Result<()> {
-    run(&rt)
-}
-
-fn run(rt: &HostRuntime) -> anyhow::Result<()> {
-    let names = fs::read_to_string(rt, "cases.txt")?;
+    let names = fs::read_to_string(&rt, "cases.txt")?;
     let mut agreeing: u32 = 0;
     for name in names.as_str().lines() {
-        if agrees(rt, name)? {
+        if agrees(&rt, name)? {
             agreeing = agreeing.saturating_add(1);
         } else {
             println!(rt; "{name} differs")?;

@@ -4,6 +4,8 @@
 #[cfg(test)]
 mod changes;
 #[cfg(test)]
+mod kinds;
+#[cfg(test)]
 mod refused_rules;
 #[cfg(test)]
 mod refused_tables;

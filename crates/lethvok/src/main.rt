@@ -6,10 +6,6 @@ use std::io::Read;
 use verdict::{answer_image, answer_text};
 
 fn main(rt: HostRuntime) -> anyhow::Result<()> {
-    run(&rt)
-}
-
-fn run(rt: &HostRuntime) -> anyhow::Result<()> {
     let heap = rt.alloc();
     let mut bytes = Vec::new(heap);
     // one byte more than an image may have, so that a longer one is refused and not cut

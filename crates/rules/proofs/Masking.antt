@@ -3,20 +3,16 @@ use Rattle.std.proofs.Common.{◌≡◌, ℕ, zero, suc, ◌+◌, ◌*◌, ◌/�
 use Rattle.std.specs.Int.{bit_at}
 use lib.Bits.{bit_and}
 use Rattle.std.proofs.lemmas.Nat.{pow_pos, mod-pow-add, and_le_l, mod_below}
-use Rattle.std.proofs.lemmas.Nat.Bits.{bit_at_and, bit_at-zero}
+use Rattle.std.proofs.lemmas.Nat.Bits.{bit_at_and, bit_at-zero, bit_at-lt}
 use Rattle.std.proofs.lemmas.Bool.Decides.{nat_tests}
 use Rattle.rules.specs.Signals.{has, masks_hold}
 use Rattle.search.specs.First.{some}
 use Rattle.search.proofs.Searching.{some_more}
 
--- A bit is 0 or 1.
-bit_below : (n k : ℕ) → bit_at n k < 2
-bit_below n k = mod_below (n / 2 ^ k) 2 (omega arith)
-
 -- A mask keeps a signal that both have, and loses one that it alone has.
 keeps : (a b k : ℕ) → (has a k && has b k) ≡ not (eqb (bit_at (bit_and a b) k) (bit_at 0 k))
 keeps a b k =
-    kept (bit_at a k) (bit_at b k) (bit_below a k) (bit_below b k)
+    kept (bit_at a k) (bit_at b k) (bit_at-lt a k) (bit_at-lt b k)
     ∙ ap₂ (λ (m n : ℕ). not (eqb m n)) (sym (bit_at_and a b k)) (sym (bit_at-zero k))
   where
     kept : (x y : ℕ) → x < 2 → y < 2 → (eqb x 1 && eqb y 1) ≡ not (eqb (min x y) 0)
@@ -24,7 +20,7 @@ keeps a b k =
 
 loses : (a b k : ℕ) → (has a k && not (has b k)) ≡ not (eqb (bit_at (bit_and a b) k) (bit_at a k))
 loses a b k =
-    lost (bit_at a k) (bit_at b k) (bit_below a k) (bit_below b k)
+    lost (bit_at a k) (bit_at b k) (bit_at-lt a k) (bit_at-lt b k)
     ∙ ap (λ (m : ℕ). not (eqb m (bit_at a k))) (sym (bit_at_and a b k))
   where
     lost : (x y : ℕ) → x < 2 → y < 2 → (eqb x 1 && not (eqb y 1)) ≡ not (eqb (min x y) x)
@@ -34,7 +30,7 @@ loses a b k =
 differ_more :
     (m n k : ℕ) → (not (eqb (m % 2 ^ k) (n % 2 ^ k)) || not (eqb (bit_at m k) (bit_at n k))) ≡ not (eqb (m % 2 ^ suc k) (n % 2 ^ suc k))
 differ_more m n k =
-    joined (bit_at m k) (bit_at n k) (2 ^ k) (m % 2 ^ k) (n % 2 ^ k) (bit_below m k) (bit_below n k) (mod_below m (2 ^ k) (pow_pos k))
+    joined (bit_at m k) (bit_at n k) (2 ^ k) (m % 2 ^ k) (n % 2 ^ k) (bit_at-lt m k) (bit_at-lt n k) (mod_below m (2 ^ k) (pow_pos k))
     (mod_below n (2 ^ k) (pow_pos k))
     ∙ ap₂ (λ (a b : ℕ). not (eqb a b)) (sym (one_bit_more m)) (sym (one_bit_more n))
   where

@@ -17,12 +17,6 @@ use Rattle.search.proofs.Searching.{first_none, first_here}
 use denote.Param.Members.{Mut}
 use denote.Ref.{Bor}
 
--- What is made of a place that was found.
-pub mapped :
-    {B : Type 0} (o : Option ℕ) (f : ℕ → B) (r : Option B) → MatchOption o (r ≡ None) (λ x. r ≡ Some (f x)) → r ≡ option_map f o
-mapped None f r e = e
-mapped (Some x) f r e = e
-
 -- `find` over the numbers below m, which is n, by its clause `ran`.
 pub lowest_from_find :
     {F : Type 0} {g : Mut F (Bor ℕ × Unit {0}) Bool} (n m : ℕ) (test : ℕ → Bool) (u : Range ℕ) (f : F) (r : Option ℕ) → m ≡ n →
@@ -33,6 +27,20 @@ pub lowest_from_find :
 unfolding lowest
 lowest_from_find n m test u f r e computes ran =
     sym (option_map_id r) ∙ find_from_yields_List test u f r ran (YieldsList-from_range 0 m n refl (omega (arith, e))) computes
+
+-- `find` and then `map`.
+pub mapped_from_find :
+    {F B : Type 0} {g : Mut F (Bor ℕ × Unit {0}) Bool} (n m : ℕ) (test : ℕ → Bool) (v : ℕ → B) (u : Range ℕ) (f : F) (o : Option ℕ) (r : Option B) →
+    m ≡ n → ((x : ℕ) (b : Bool) (q : F) → CalledAt g f x b q → (q ≡ f) × (b ≡ test x)) →
+    (xs : List ℕ) × (j : F) × YieldsThen nat_range_steps (record { start = 0; end = m }) xs o u
+    × FoldsTo (λ p x q. CalledAt g p x false q) f xs j × MatchOption o ⊤ (λ x. (h : F) × CalledAt g j x true h) →
+    MatchOption o (r ≡ None) (λ x. r ≡ Some (v x)) → r ≡ option_map v (lowest n test)
+mapped_from_find {B = B} n m test v u f o r e computes ran made =
+    made_of o r made ∙ ap (option_map v) (lowest_from_find n m test u f o e computes ran)
+  where
+    made_of : (o : Option ℕ) (r : Option B) → MatchOption o (r ≡ None) (λ x. r ≡ Some (v x)) → r ≡ option_map v o
+    made_of None r e = e
+    made_of (Some x) r e = e
 
 -- `all` over the numbers below m, which is n, by its clause `ran`.
 pub every_from_all :

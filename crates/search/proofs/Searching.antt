@@ -2,6 +2,7 @@
 use Rattle.std.proofs.Common.{◌≡◌, ℕ, zero, suc, ◌+◌, ◌<◌, Bool, true, false, cond, ◌&&◌, ◌||◌, List, [], ◌∷◌, ◌++◌, find, is_some, Some, None, Decides, Option, sym, refl, ap, ap₂, ◌∙◌, subst, ⊎_elim, arith}
 use Rattle.std.specs.List.{range_with_len, list_all, list_any}
 use Rattle.std.specs.Option.{option_or}
+use Rattle.std.proofs.Math.Bool.{and-true, or-false}
 use Rattle.std.proofs.lemmas.Bool.{and_parts, and_from, cases_eq, false≢true}
 use Rattle.std.proofs.lemmas.Option.{none-some}
 use Rattle.std.proofs.lemmas.List.Folds.{find-append, list_any-append, list_all-append}
@@ -22,22 +23,14 @@ pub every_more : (n : ℕ) (test : ℕ → Bool) → every (suc n) test ≡ (eve
 unfolding every
 every_more n test =
     ap (list_all test) (below_more n) ∙ list_all-append test (range_with_len 0 n) (n ∷ [])
-    ∙ ap (λ (b : Bool). list_all test (range_with_len 0 n) && b) (and_true (test n))
-  where
-    and_true : (b : Bool) → (b && true) ≡ b
-    and_true true = refl
-    and_true false = refl
+    ∙ ap (λ (b : Bool). list_all test (range_with_len 0 n) && b) (and-true (test n))
 
 -- Some number below n + 1 passes if one below n does, or n does.
 pub some_more : (n : ℕ) (test : ℕ → Bool) → some (suc n) test ≡ (some n test || test n)
 unfolding some
 some_more n test =
     ap (list_any test) (below_more n) ∙ list_any-append test (range_with_len 0 n) (n ∷ [])
-    ∙ ap (λ (b : Bool). list_any test (range_with_len 0 n) || b) (or_false (test n))
-  where
-    or_false : (b : Bool) → (b || false) ≡ b
-    or_false true = refl
-    or_false false = refl
+    ∙ ap (λ (b : Bool). list_any test (range_with_len 0 n) || b) (or-false (test n))
 
 -- Below 0 every number passes, and none does.
 pub every_none : (test : ℕ → Bool) → every 0 test ≡ true
