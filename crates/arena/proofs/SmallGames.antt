@@ -1,26 +1,21 @@
 -- Who wins the small games.
 use Rattle.std.proofs.Common.{◌≡◌, ℕ, zero, suc, ◌<◌, Bool, true, false, cond, ◌&&◌, eqb, ltb, [], ◌∷◌, Some, None, sym, refl, ◌∙◌, arith}
-use Rattle.std.proofs.lemmas.Option.{none-some}
+use Rattle.std.proofs.lemmas.Option.{cond_some}
 use Rattle.std.proofs.lemmas.Bool.{and_parts, and_from, eqb-true, eq-eqb, lt-ltb, cond-true, false≢true}
 use Rattle.arena.specs.Play.{Past, Reaches, Play, Again}
 use Rattle.arena.specs.Winner.{ControllerWinsBy, EnvironmentWinsBy}
 use Rattle.arena.specs.Examples.{one_state, OneState, OneStateLawful, OneStateBarred, matching, Known}
-
--- A reply that leads somewhere under a test passed the test, and led where it says.
-led : (b : Bool) (n p : ℕ) → cond b (Some n) None ≡ Some p → (b ≡ true) × (n ≡ p)
-led true n p e = (refl, (cc))
-led false n p e = absurd (none-some p e)
 
 -- ── The game of one state ──────────────────────────────────────────────────────────────────────
 module _ (o l a g : Bool) where
   -- From state 0 only state 0 is reached.
   stays : (past : Past) (p : ℕ) → Reaches (one_state o l a g) 0 past p → p ≡ 0
   stays [] p r = sym r
-  stays (round ∷ past) p r = sym (led _ 0 p r.1.is_legal).1
+  stays (round ∷ past) p r = sym (cond_some _ 0 p r.1.is_legal).1
 
   stays_endless : (p : Play (one_state o l a g) 0) (n : ℕ) → p.state n ≡ 0
   stays_endless p zero = p.begins
-  stays_endless p (suc n) = sym (led _ 0 _ (p.goes_on n).is_legal).1
+  stays_endless p (suc n) = sym (cond_some _ 0 _ (p.goes_on n).is_legal).1
 
   -- An endless play visits a set that holds the state again and again.
   again : (p : Play (one_state o l a g) 0) (i : ℕ) → i < 1 → Again p (λ q. true && (eqb i 0 && eqb q 0))
@@ -60,7 +55,7 @@ picked l a g past p r = and_from (eqb p 0) true (eq-eqb p 0 (stays true l a g pa
 environment_barred : (a g : Bool) → EnvironmentWinsBy (one_state true false a g) 0 (λ past q. Some 0)
 environment_barred a g = record {
   inputs = λ past p r f. (0, refl, picked false a g past p r);
-  endless = λ p f c. false≢true (led _ 0 _ (p.goes_on 0).is_legal).0;
+  endless = λ p f c. false≢true (cond_some _ 0 _ (p.goes_on 0).is_legal).0;
 }
 
 environment_unguaranteed : EnvironmentWinsBy (one_state true true true false) 0 (λ past q. Some 0)
@@ -95,7 +90,7 @@ one_state_lawful o l a g = record {
     few_replies = omega arith;
     opened_inside = λ q x e. both_zero o q x e;
     leads_from_inside = λ q x y p e. asked q x y p e;
-    leads_inside = λ q x y p e. let z = (led _ 0 p e).1 in omega arith;
+    leads_inside = λ q x y p e. let z = (cond_some _ 0 p e).1 in omega arith;
   };
   goals = record {
     some_assumption = omega arith;
@@ -111,7 +106,7 @@ one_state_lawful o l a g = record {
     asked :
         (q x y p : ℕ) → (one_state o l a g).moves.leads q x y ≡ Some p → (q < 1) × (x < 1) × (y < 1)
     asked q x y p e =
-        let t = and_parts (eqb q 0) (eqb x 0 && eqb y 0) (and_parts l _ (led _ 0 p e).0).1 in
+        let t = and_parts (eqb q 0) (eqb x 0 && eqb y 0) (and_parts l _ (cond_some _ 0 p e).0).1 in
         let u = both_zero (eqb q 0) x y (and_from _ _ t.0 t.1) in
         let z = eqb-true q 0 t.0 in
         (omega arith, u.0, u.1)
@@ -133,7 +128,7 @@ matches q = record {
     moved : (p : Play matching q) (n : ℕ) → Some (p.input n) ≡ Some (p.reply n) → p.state (suc n) ≡ 1
     moved p n e =
         let same : p.input n ≡ p.reply n = cc in
-        sym (led _ (cond (eqb (p.input n) (p.reply n)) 1 0) _ (p.goes_on n).is_legal).1 ∙ cond-true _ 1 0 (eq-eqb _ _ same)
+        sym (cond_some _ (cond (eqb (p.input n) (p.reply n)) 1 0) _ (p.goes_on n).is_legal).1 ∙ cond-true _ 1 0 (eq-eqb _ _ same)
 
 pub known : Known
 known = record {

@@ -16,12 +16,15 @@ pub use player::Player;
 pub trait Moves {
     ghost moves: { Self → GameMoves };
 
+    /// How many states there are.
     fn states(&self) -> u16
         ensures { result ≡ (moves self.now).states };
 
+    /// How many inputs there are.
     fn inputs(&self) -> u16
         ensures { result ≡ (moves self.now).inputs };
 
+    /// How many replies there are.
     fn replies(&self) -> u16
         ensures { result ≡ (moves self.now).replies };
 
@@ -42,9 +45,11 @@ pub trait Moves {
 pub trait Arena: Moves {
     ghost goals: { Self → GameGoals };
 
+    /// How many assumption sets there are.
     fn assumptions(&self) -> u16
         ensures { result ≡ (goals self.now).assumptions };
 
+    /// How many guarantee sets there are.
     fn guarantees(&self) -> u16
         ensures { result ≡ (goals self.now).guarantees };
 
@@ -56,6 +61,7 @@ pub trait Arena: Moves {
     fn in_guarantee(&self, set: u16, state: u16) -> bool
         ensures { result ≡ (goals self.now).guaranteed set state };
 
+    /// Whether a play may start at `state`.
     fn is_start(&self, state: u16) -> bool
         ensures { result ≡ starts (goals self.now) state };
 

@@ -5,7 +5,9 @@ ghost use Rattle.arena.specs.Winner.{NotBoth, other};
 /// The two sides of a game.
 #[derive(Clone, Copy, PartialEq, Eq, Debug)]
 pub enum Player {
+    /// Picks the replies.
     Controller,
+    /// Picks the inputs.
     Environment,
 }
 

@@ -38,9 +38,11 @@ pub fn number(bytes: &[u8], at: usize) -> u16
 }
 
 /// A pair of the header: where its section begins, and how many bytes it has.
-#[derive(Clone, Copy)]
+#[derive(Clone, Copy, PartialEq, Eq, Debug)]
 pub struct Section {
+    /// Where it begins.
     pub offset: usize,
+    /// How many bytes it has.
     pub size: usize,
 }
 

@@ -5,7 +5,7 @@ use crate::judgement::judge;
 use crate::kind::Kind;
 
 /// Bytes that are judged to be an image, and its kind.
-#[derive(Clone, Copy)]
+#[derive(Clone, Copy, PartialEq, Eq, Debug)]
 pub struct Judged<'a> {
     kind: Kind,
     bytes: &'a [u8],

@@ -28,15 +28,13 @@ fn the_worked_image_answers_as_its_game(rt: HostRuntime) {
 }
 
 // One signal on each side, and a controller row: the output is off now or off next.
-fn one_controller_row() -> &'static [u8] {
-    b"\x02\0\x01\0\x01\0\0\0\x01\0\x01\0\
-      \x20\0\0\0\x20\0\x08\0\x28\0\0\0\x28\0\0\0\x28\0\0\0\
-      \0\0\x02\0\0\0\x02\0"
-}
+const ONE_CONTROLLER_ROW: &[u8] = b"\x02\0\x01\0\x01\0\0\0\x01\0\x01\0\
+    \x20\0\0\0\x20\0\x08\0\x28\0\0\0\x28\0\0\0\x28\0\0\0\
+    \0\0\x02\0\0\0\x02\0";
 
 #[test]
 fn a_controller_row_bars_what_it_forbids(rt: HostRuntime) {
-    let rules = Image::open(one_controller_row());
+    let rules = Image::open(ONE_CONTROLLER_ROW);
     assert_eq!(rt; rules.leads(2, 0, 1), None);
     assert_eq!(rt; rules.leads(3, 1, 1), None);
     assert_eq!(rt; rules.leads(0, 1, 1), Some(3));
@@ -44,14 +42,12 @@ fn a_controller_row_bars_what_it_forbids(rt: HostRuntime) {
 }
 
 // Two input signals, one output signal, two sets of each kind, and no row.
-fn no_rows() -> &'static [u8] {
-    b"\x02\0\x02\0\x01\0\0\0\x02\0\x02\0\
-      \x20\0\0\0\x20\0\0\0\x20\0\0\0\x20\0\0\0\x20\0\0\0"
-}
+const NO_ROWS: &[u8] = b"\x02\0\x02\0\x01\0\0\0\x02\0\x02\0\
+    \x20\0\0\0\x20\0\0\0\x20\0\0\0\x20\0\0\0\x20\0\0\0";
 
 #[test]
 fn without_rows_everything_is_allowed_and_in_every_set(rt: HostRuntime) {
-    let rules = Image::open(no_rows());
+    let rules = Image::open(NO_ROWS);
     assert_eq!(rt; rules.states(), 8);
     assert_eq!(rt; rules.inputs(), 4);
     assert_eq!(rt; rules.replies(), 2);
@@ -70,16 +66,14 @@ fn without_rows_everything_is_allowed_and_in_every_set(rt: HostRuntime) {
 }
 
 // Two environment rows that no input meets together: the input is on next, and it is off next.
-fn closing_rows() -> &'static [u8] {
-    b"\x02\0\x01\0\x01\0\0\0\x01\0\x01\0\
-      \x20\0\x10\0\x30\0\0\0\x30\0\0\0\x30\0\0\0\x30\0\0\0\
-      \0\0\0\0\x01\0\0\0\
-      \0\0\0\0\0\0\x01\0"
-}
+const CLOSING_ROWS: &[u8] = b"\x02\0\x01\0\x01\0\0\0\x01\0\x01\0\
+    \x20\0\x10\0\x30\0\0\0\x30\0\0\0\x30\0\0\0\x30\0\0\0\
+    \0\0\0\0\x01\0\0\0\
+    \0\0\0\0\0\0\x01\0";
 
 #[test]
 fn rows_can_close_every_input_and_leave_the_replies(rt: HostRuntime) {
-    let rules = Image::open(closing_rows());
+    let rules = Image::open(CLOSING_ROWS);
     for state in 0..4 {
         for input in 0..2u16 {
             assert!(rt; !rules.is_open(state, input));
@@ -89,19 +83,17 @@ fn rows_can_close_every_input_and_leave_the_replies(rt: HostRuntime) {
 }
 
 // A row of zero masks in each section, that of the assumptions and that of the guarantees for set 1 of two.
-fn zero_masks() -> &'static [u8] {
-    b"\x02\0\x01\0\x01\0\0\0\x02\0\x02\0\
-      \x20\0\x08\0\x28\0\x08\0\x30\0\x06\0\x36\0\x06\0\x3c\0\x04\0\
-      \0\0\0\0\0\0\0\0\
-      \0\0\0\0\0\0\0\0\
-      \x01\0\0\0\0\0\
-      \x01\0\0\0\0\0\
-      \0\0\0\0"
-}
+const ZERO_MASKS: &[u8] = b"\x02\0\x01\0\x01\0\0\0\x02\0\x02\0\
+    \x20\0\x08\0\x28\0\x08\0\x30\0\x06\0\x36\0\x06\0\x3c\0\x04\0\
+    \0\0\0\0\0\0\0\0\
+    \0\0\0\0\0\0\0\0\
+    \x01\0\0\0\0\0\
+    \x01\0\0\0\0\0\
+    \0\0\0\0";
 
 #[test]
 fn a_row_of_zero_masks_never_holds(rt: HostRuntime) {
-    let rules = Image::open(zero_masks());
+    let rules = Image::open(ZERO_MASKS);
     for state in 0..4 {
         assert!(rt; rules.in_assumption(0, state) && rules.in_guarantee(0, state));
         assert!(rt; !rules.in_assumption(1, state) && !rules.in_guarantee(1, state));
@@ -114,21 +106,19 @@ fn a_row_of_zero_masks_never_holds(rt: HostRuntime) {
 }
 
 // Rows with a signal in both masks, now in one row and next in the other, and in those of the sets and of the starts.
-fn both_masks() -> &'static [u8] {
-    b"\x02\0\x01\0\x01\0\0\0\x01\0\x01\0\
-      \x20\0\x10\0\x30\0\x10\0\x40\0\x06\0\x46\0\x06\0\x4c\0\x04\0\
-      \x01\0\x01\0\0\0\0\0\
-      \0\0\0\0\x01\0\x01\0\
-      \x02\0\x02\0\0\0\0\0\
-      \0\0\0\0\x02\0\x02\0\
-      \0\0\x01\0\x01\0\
-      \0\0\x02\0\x02\0\
-      \x03\0\x03\0"
-}
+const BOTH_MASKS: &[u8] = b"\x02\0\x01\0\x01\0\0\0\x01\0\x01\0\
+    \x20\0\x10\0\x30\0\x10\0\x40\0\x06\0\x46\0\x06\0\x4c\0\x04\0\
+    \x01\0\x01\0\0\0\0\0\
+    \0\0\0\0\x01\0\x01\0\
+    \x02\0\x02\0\0\0\0\0\
+    \0\0\0\0\x02\0\x02\0\
+    \0\0\x01\0\x01\0\
+    \0\0\x02\0\x02\0\
+    \x03\0\x03\0";
 
 #[test]
 fn a_signal_in_both_masks_always_holds(rt: HostRuntime) {
-    let rules = Image::open(both_masks());
+    let rules = Image::open(BOTH_MASKS);
     for state in 0..4 {
         assert!(rt;
             rules.in_assumption(0, state) && rules.in_guarantee(0, state) && rules.is_start(state)
@@ -142,22 +132,20 @@ fn a_signal_in_both_masks_always_holds(rt: HostRuntime) {
 
 // Two input and two output signals. Environment: input 0 is on now, or output 1 is off now, or input 1 is on next. Controller:
 // output 0 is on now, or input 1 is on next, or output 1 is off next. Each set has two rows that must both hold.
-fn telling_rows() -> &'static [u8] {
-    b"\x02\0\x02\0\x02\0\0\0\x01\0\x01\0\
-      \x20\0\x08\0\x28\0\x08\0\x30\0\x0c\0\x3c\0\x0c\0\x48\0\x08\0\
-      \x01\0\x08\0\x02\0\0\0\
-      \x04\0\0\0\x02\0\x08\0\
-      \0\0\x01\0\0\0\
-      \0\0\0\0\x08\0\
-      \0\0\x02\0\x04\0\
-      \0\0\x0c\0\0\0\
-      \x05\0\0\0\
-      \0\0\x0a\0"
-}
+const TELLING_ROWS: &[u8] = b"\x02\0\x02\0\x02\0\0\0\x01\0\x01\0\
+    \x20\0\x08\0\x28\0\x08\0\x30\0\x0c\0\x3c\0\x0c\0\x48\0\x08\0\
+    \x01\0\x08\0\x02\0\0\0\
+    \x04\0\0\0\x02\0\x08\0\
+    \0\0\x01\0\0\0\
+    \0\0\0\0\x08\0\
+    \0\0\x02\0\x04\0\
+    \0\0\x0c\0\0\0\
+    \x05\0\0\0\
+    \0\0\x0a\0";
 
 #[test]
 fn every_mask_counts(rt: HostRuntime) {
-    let rules = Image::open(telling_rows());
+    let rules = Image::open(TELLING_ROWS);
     for q in 0..16u16 {
         assert_eq!(rt; rules.in_assumption(0, q), on(q, 0) && !on(q, 3));
         assert_eq!(rt;
@@ -186,27 +174,23 @@ fn on(number: u16, signal: u16) -> bool
 }
 
 // Ten signals, six of them inputs, and no row.
-fn six_and_four() -> &'static [u8] {
-    b"\x02\0\x06\0\x04\0\0\0\x08\0\x08\0\
-      \x20\0\0\0\x20\0\0\0\x20\0\0\0\x20\0\0\0\x20\0\0\0"
-}
+const SIX_AND_FOUR: &[u8] = b"\x02\0\x06\0\x04\0\0\0\x08\0\x08\0\
+    \x20\0\0\0\x20\0\0\0\x20\0\0\0\x20\0\0\0\x20\0\0\0";
 
 // Ten signals, four of them inputs, and a start row that names the highest.
-fn four_and_six() -> &'static [u8] {
-    b"\x02\0\x04\0\x06\0\0\0\x01\0\x01\0\
-      \x20\0\0\0\x20\0\0\0\x20\0\0\0\x20\0\0\0\x20\0\x04\0\
-      \0\x02\0\0"
-}
+const FOUR_AND_SIX: &[u8] = b"\x02\0\x04\0\x06\0\0\0\x01\0\x01\0\
+    \x20\0\0\0\x20\0\0\0\x20\0\0\0\x20\0\0\0\x20\0\x04\0\
+    \0\x02\0\0";
 
 #[test]
 fn ten_signals_make_a_thousand_and_twenty_four_states(rt: HostRuntime) {
-    let rules = Image::open(six_and_four());
+    let rules = Image::open(SIX_AND_FOUR);
     assert_eq!(rt; rules.states(), 1024);
     assert_eq!(rt; rules.inputs(), 64);
     assert_eq!(rt; rules.replies(), 16);
     assert_eq!(rt; rules.leads(1023, 63, 15), Some(1023));
     assert_eq!(rt; rules.leads(0, 1, 2), Some(129));
-    let rules = Image::open(four_and_six());
+    let rules = Image::open(FOUR_AND_SIX);
     assert_eq!(rt; rules.states(), 1024);
     assert_eq!(rt; rules.inputs(), 16);
     assert_eq!(rt; rules.replies(), 64);
@@ -217,7 +201,7 @@ fn ten_signals_make_a_thousand_and_twenty_four_states(rt: HostRuntime) {
 
 #[test]
 fn nothing_is_outside_the_game(rt: HostRuntime) {
-    let rules = Image::open(no_rows());
+    let rules = Image::open(NO_ROWS);
     assert!(rt; !rules.is_open(8, 0) && !rules.is_open(0, 4));
     assert_eq!(rt; rules.leads(8, 0, 0), None);
     assert_eq!(rt; rules.leads(0, 4, 0), None);

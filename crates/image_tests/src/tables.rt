@@ -22,19 +22,17 @@ fn the_worked_image_answers_as_its_game(rt: HostRuntime) {
 }
 
 // Four states, three inputs, two replies, one assumption set and five guarantee sets, with a gap before each section.
-fn uneven_image() -> &'static [u8] {
-    b"\x01\0\x04\0\x03\0\x02\0\x01\0\x05\0\
-      \x21\0\x0c\0\x2e\0\x30\0\x5f\0\x04\0\x64\0\x14\0\x79\0\x04\0\
-      \xff\x01\0\x01\0\x01\0\x01\0\x01\0\x01\0\
-      \xff\0\0\x03\0\x02\0\0\0\xff\xff\x02\0\x01\0\xff\xff\x03\0\x01\0\0\0\x03\0\x02\0\0\0\xff\xff\x02\0\x01\0\xff\xff\x03\0\x01\0\0\0\x03\0\x02\0\0\0\
-      \xff\0\x01\0\x01\
-      \xff\x01\0\0\x01\0\0\x01\0\0\x01\0\0\x01\0\0\x01\0\0\x01\0\
-      \xff\0\0\x01\x01"
-}
+const UNEVEN_IMAGE: &[u8] = b"\x01\0\x04\0\x03\0\x02\0\x01\0\x05\0\
+    \x21\0\x0c\0\x2e\0\x30\0\x5f\0\x04\0\x64\0\x14\0\x79\0\x04\0\
+    \xff\x01\0\x01\0\x01\0\x01\0\x01\0\x01\0\
+    \xff\0\0\x03\0\x02\0\0\0\xff\xff\x02\0\x01\0\xff\xff\x03\0\x01\0\0\0\x03\0\x02\0\0\0\xff\xff\x02\0\x01\0\xff\xff\x03\0\x01\0\0\0\x03\0\x02\0\0\0\
+    \xff\0\x01\0\x01\
+    \xff\x01\0\0\x01\0\0\x01\0\0\x01\0\0\x01\0\0\x01\0\0\x01\0\
+    \xff\0\0\x01\x01";
 
 #[test]
 fn each_section_is_read_by_its_own_rows_and_columns(rt: HostRuntime) {
-    let table = Image::open(uneven_image());
+    let table = Image::open(UNEVEN_IMAGE);
     assert_eq!(rt; table.assumptions(), 1);
     assert_eq!(rt; table.guarantees(), 5);
     for q in 0..4u16 {
@@ -48,7 +46,7 @@ fn each_section_is_read_by_its_own_rows_and_columns(rt: HostRuntime) {
 
 #[test]
 fn moves_are_read_by_state_input_and_reply(rt: HostRuntime) {
-    let table = Image::open(uneven_image());
+    let table = Image::open(UNEVEN_IMAGE);
     for q in 0..4u16 {
         for x in 0..3u16 {
             assert_eq!(rt; table.is_open(q, x), (q + x) % 2 == 0);

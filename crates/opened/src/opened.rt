@@ -8,9 +8,11 @@ use rules::Rules;
 use table::Table;
 
 /// A game that an image of some kind spells. Every question reads the caller's bytes.
-#[derive(Clone, Copy)]
+#[derive(Clone, Copy, PartialEq, Eq, Debug)]
 pub enum Image<'a> {
+    /// An image of a table.
     Table(Table<'a>),
+    /// An image of rules.
     Rules(Rules<'a>),
 }
 
@@ -38,7 +40,7 @@ macro_rules! ask {
     };
 }
 
-impl<'a> Moves for Image<'a> {
+impl Moves for Image<'_> {
     ghost moves = { image_moves };
 
     fn states(&self) -> u16 {
@@ -64,7 +66,7 @@ impl<'a> Moves for Image<'a> {
     ghost lawful = { image_moves_lawful };
 }
 
-impl<'a> Arena for Image<'a> {
+impl Arena for Image<'_> {
     ghost goals = { image_goals };
 
     fn assumptions(&self) -> u16 {

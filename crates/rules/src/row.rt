@@ -10,12 +10,12 @@ use image::number;
 pub(crate) struct Row<'a> {
     bytes: &'a [u8],
     at: usize,
-    ghost near: { at < 2 ^ 20 },
+    ghost in_range: { at < 2 ^ 20 },
 }
 
 impl<'a> Row<'a> {
     // The row at an offset.
-    pub(crate) fn at(bytes: &'a [u8], at: usize) -> Row<'a>
+    pub(crate) fn new(bytes: &'a [u8], at: usize) -> Row<'a>
         requires { at < 2 ^ 20 }
         ensures { (result.bytes.now ≡ bytes.now) × (result.at ≡ at) }
     {
@@ -65,7 +65,7 @@ struct Masks {
 }
 
 impl Masks {
-    // Whether the masks hold at a state.
+    // Whether the masks hold at a state; both are tested, without a branch.
     #[tactic(auto, using(crate::proofs::Masking::masks_by_and))]
     fn hold_at(self, state: u16) -> bool
         ensures { result ≡ masks_hold self.on self.off state }

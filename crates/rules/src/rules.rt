@@ -12,7 +12,7 @@ use image::{
 };
 
 /// A game that rules over signals spell. Every question reads the caller's bytes.
-#[derive(Clone, Copy)]
+#[derive(Clone, Copy, PartialEq, Eq, Debug)]
 pub struct Rules<'a> {
     bytes: &'a [u8],
     ghost lawful: { is_rules bytes.now ≡ true },
@@ -49,12 +49,14 @@ impl<'a> Rules<'a> {
     // Whether every row of a section holds, by the test that the closure is; the first row that fails it decides.
     fn every_row<F: Fn(Row) -> bool>(&self, pair: u8, holds: F) -> bool
         requires { F.IsAlwaysCallable holds }
-        ensures { (test : List ℕ → ℕ → Bool) → ((row : Row) (b : Bool) → F.post holds row b → b ≡ test row.bytes.now row.at) → result ≡ rows_hold self.now.bytes.now pair test }
+        ensures { (test : List ℕ → ℕ → Bool)
+            → ((row : Row) (b : Bool) → F.post holds row b → b ≡ test row.bytes.now row.at)
+            → result ≡ rows_hold self.now.bytes.now pair test }
     {
         let section = Section::read(self.bytes, pair);
         let width = row_width(pair);
         (0..section.size / width)
-            .map(|row| Row::at(self.bytes, section.offset + width * row))
+            .map(|row| Row::new(self.bytes, section.offset + width * row))
             .all(holds)
     }
 }
@@ -65,7 +67,7 @@ struct Counts {
     states: u16,
     inputs: u16,
     replies: u16,
-    ghost few: { inputs * replies ≤ 1024 },
+    ghost in_range: { inputs * replies ≤ 1024 },
 }
 
 // How many choices there are of so many signals.
@@ -76,7 +78,7 @@ fn two_to(bits: u16) -> u16
     1 << bits
 }
 
-impl<'a> Moves for Rules<'a> {
+impl Moves for Rules<'_> {
     ghost moves = { λ t. rules_moves t.bytes.now };
 
     fn states(&self) -> u16 {
@@ -111,7 +113,7 @@ impl<'a> Moves for Rules<'a> {
     ghost lawful = { λ t. rules_moves_lawful t.bytes.now t.lawful };
 }
 
-impl<'a> Arena for Rules<'a> {
+impl Arena for Rules<'_> {
     ghost goals = { λ t. rules_goals t.bytes.now };
 
     fn assumptions(&self) -> u16 {

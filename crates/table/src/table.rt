@@ -1,5 +1,5 @@
 ghost use Rattle.std.specs.Prelude.{◌≡◌, ◌+◌, ◌*◌, ◌^◌, ◌<◌, true, ◌&&◌, cond, Some, None, IfSome, nat_lt, slice_index};
-ghost use Rattle.image.specs.Format.{table_sizes};
+ghost use Rattle.image.specs.Format.{states_of, inputs_of, table_sizes};
 ghost use Rattle.image.specs.Opening.{bytes_as};
 ghost use Rattle.table.specs.Tables.{is_table, table_moves, table_goals, flag_at};
 ghost use Rattle.table.specs.Tabling.{table_moves_lawful, table_goals_lawful};
@@ -11,7 +11,7 @@ use image::{
 };
 
 /// A game that a table spells. Every question reads the caller's bytes.
-#[derive(Clone, Copy)]
+#[derive(Clone, Copy, PartialEq, Eq, Debug)]
 pub struct Table<'a> {
     bytes: &'a [u8],
     ghost lawful: { is_table bytes.now ≡ true },
@@ -27,15 +27,30 @@ impl<'a> Table<'a> {
         }
     }
 
+    // A number as that of a state.
+    fn state(&self, state: u16) -> Index
+        ensures { (result.value ≡ state) × (result.count ≡ states_of self.now.bytes.now) }
+    {
+        Index::new(state, self.states())
+    }
+
+    // A number as that of an input.
+    fn input(&self, input: u16) -> Index
+        ensures { (result.value ≡ input) × (result.count ≡ inputs_of self.now.bytes.now) }
+    {
+        Index::new(input, self.inputs())
+    }
+
     // Whether the flag of a section at this row and column says yes; outside its rows and columns there is none.
     #[tactic(auto, using(crate::specs::Tabling::table_flag_inside))]
     fn flag(&self, pair: u8, row: Index, column: Index) -> bool
         requires section { pair < 5 }
         requires cells { slice_index (table_sizes self.now.bytes.now) pair ≡ row.count * column.count }
-        ensures { result ≡ (nat_lt row.value row.count && (nat_lt column.value column.count && flag_at self.now.bytes.now pair (row.value * column.count + column.value))) }
+        ensures { result ≡ (nat_lt row.value row.count && (nat_lt column.value column.count
+            && flag_at self.now.bytes.now pair (row.value * column.count + column.value))) }
     {
-        if let Some(row) = row.in_row(0)
-            && let Some(cell) = column.in_row(row)
+        if let Some(row) = row.cell_in(0)
+            && let Some(cell) = column.cell_in(row)
         {
             let at = Section::read(self.bytes, pair).offset + cell;
             self.bytes[at] == 1
@@ -61,16 +76,17 @@ impl Index {
     }
 
     // The number of the cell in this column of a row; past the last column there is none.
-    fn in_row(self, row: usize) -> Option<usize>
+    fn cell_in(self, row: usize) -> Option<usize>
         requires { row < 2 ^ 32 }
         ensures small { IfSome result (λ cell. cell < 2 ^ 48) }
-        ensures value { result ≡ cond (nat_lt self.value self.count) (Some (row * self.count + self.value)) None }
+        ensures value { result
+            ≡ cond (nat_lt self.value self.count) (Some (row * self.count + self.value)) None }
     {
         (self.value < self.count).then(|| row * usize::from(self.count) + usize::from(self.value))
     }
 }
 
-impl<'a> Moves for Table<'a> {
+impl Moves for Table<'_> {
     ghost moves = { λ t. table_moves t.bytes.now };
 
     fn states(&self) -> u16 {
@@ -86,15 +102,13 @@ impl<'a> Moves for Table<'a> {
     }
 
     fn is_open(&self, state: u16, input: u16) -> bool {
-        let state = Index::new(state, self.states());
-        let input = Index::new(input, self.inputs());
-        self.flag(OPEN_FLAGS, state, input)
+        self.flag(OPEN_FLAGS, self.state(state), self.input(input))
     }
 
     fn leads(&self, state: u16, input: u16, reply: u16) -> Option<u16> {
-        let row = Index::new(state, self.states()).in_row(0)?;
-        let row = Index::new(input, self.inputs()).in_row(row)?;
-        let cell = Index::new(reply, self.replies()).in_row(row)?;
+        let row = self.state(state).cell_in(0)?;
+        let row = self.input(input).cell_in(row)?;
+        let cell = Index::new(reply, self.replies()).cell_in(row)?;
         let at = Section::read(self.bytes, NEXT_STATES).offset + 2 * cell;
         match number(self.bytes, at) {
             BARRED => None,
@@ -105,7 +119,7 @@ impl<'a> Moves for Table<'a> {
     ghost lawful = { λ t. table_moves_lawful t.bytes.now t.lawful };
 }
 
-impl<'a> Arena for Table<'a> {
+impl Arena for Table<'_> {
     ghost goals = { λ t. table_goals t.bytes.now };
 
     fn assumptions(&self) -> u16 {
@@ -118,18 +132,16 @@ impl<'a> Arena for Table<'a> {
 
     fn in_assumption(&self, set: u16, state: u16) -> bool {
         let set = Index::new(set, self.assumptions());
-        let state = Index::new(state, self.states());
-        self.flag(ASSUMPTIONS, set, state)
+        self.flag(ASSUMPTIONS, set, self.state(state))
     }
 
     fn in_guarantee(&self, set: u16, state: u16) -> bool {
         let set = Index::new(set, self.guarantees());
-        let state = Index::new(state, self.states());
-        self.flag(GUARANTEES, set, state)
+        self.flag(GUARANTEES, set, self.state(state))
     }
 
     fn is_start(&self, state: u16) -> bool {
-        self.flag(STARTS, Index::new(0, 1), Index::new(state, self.states()))
+        self.flag(STARTS, Index::new(0, 1), self.state(state))
     }
 
     ghost lawful = { λ t. table_goals_lawful t.bytes.now t.lawful };

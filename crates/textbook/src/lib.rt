@@ -53,7 +53,7 @@ struct Fixpoint<'a, A> {
     x: StateSet,
 }
 
-impl<'a, A: Arena> Fixpoint<'a, A> {
+impl<A: Arena> Fixpoint<'_, A> {
     // The greatest Z: it shrinks from all states until each guarantee set's least Y leaves it as it is.
     fn find_z(&mut self) {
         settle(self.arena.states(), self.arena.guarantees(), |guarantee| {
@@ -115,11 +115,11 @@ fn settle<F: FnMut(u16) -> bool>(rounds: u16, count: u16, mut change: F)
 fn controls<A: Moves>(arena: &A, set: &StateSet, state: u16) -> bool {
     (0..arena.inputs())
         .filter(|input| arena.is_open(state, *input))
-        .all(|input| answers(arena, set, state, input))
+        .all(|input| has_reply_into(arena, set, state, input))
 }
 
 // Whether some legal reply to the input leads into the set.
-fn answers<A: Moves>(arena: &A, set: &StateSet, state: u16, input: u16) -> bool {
+fn has_reply_into<A: Moves>(arena: &A, set: &StateSet, state: u16, input: u16) -> bool {
     (0..arena.replies())
         .filter_map(|reply| arena.leads(state, input, reply))
         .any(|next| set.contains(next))

@@ -9,16 +9,20 @@ use opened::Image;
 use std::alloc::{AllocError, Global};
 
 /// What is told of an image.
-#[derive(Drop)]
+#[derive(PartialEq, Eq, Debug, Drop)]
 pub enum Answer {
+    /// The bytes are no image, and why.
     Refused(Refusal),
+    /// The verdicts of the game that the image spells.
     Solved(Verdicts),
 }
 
 /// Who wins each state, and whether every start is the controller's.
-#[derive(Drop)]
+#[derive(PartialEq, Eq, Debug, Drop)]
 pub struct Verdicts {
+    /// The winner of each state, in the order of the states.
     pub winners: Vec<Player>,
+    /// Whether the controller wins every start.
     pub realizable: bool,
 }
 
