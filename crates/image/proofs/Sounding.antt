@@ -31,8 +31,8 @@ use Rattle.image.specs.Judging.{
   bad_number,
   misplaced,
   misplaced_pair,
-  missized,
-  missized_section,
+  wrong_length,
+  section_of_wrong_length,
   cell_bad,
   cell_offset,
   bad_cell,
@@ -46,7 +46,7 @@ use Rattle.search.proofs.Searching.{none_passes, first_none_all}
 pub record Sound (k : Kind) (bs : List ℕ) : Type 0 where
   pub numbers : bad_number k bs ≡ None
   pub ordered : misplaced_pair k bs ≡ None
-  pub sizes : missized_section k bs ≡ None
+  pub sizes : section_of_wrong_length k bs ≡ None
   pub values : bad_value k bs ≡ None
 
 -- A refusal is no kind.
@@ -63,7 +63,7 @@ all_granted : (j k : Kind) (bs : List ℕ) → judged_as (Some j) bs ≡ Ok k �
 all_granted j k bs e =
     let n = granted (bad_number j bs) Header _ k e in
     let p = granted (misplaced_pair j bs) Pair _ k n.1 in
-    let s = granted (missized_section j bs) Section _ k p.1 in
+    let s = granted (section_of_wrong_length j bs) Section _ k p.1 in
     let v = granted (bad_value j bs) Value _ k s.1 in
     let same : j ≡ k = cc in
     subst (λ (i : Kind). Sound i bs) same (record { numbers = n.0; ordered = p.0; sizes = s.0; values = v.0 })
@@ -135,7 +135,7 @@ module _ (k : Kind) (bs : List ℕ) (s : Sound k bs) where
 
   -- Each section has a length that it may have.
   pub sized : (i : ℕ) → i < pairs_of k → size_fits k bs i ≡ true
-  sized i l = not-false _ (none_passes (pairs_of k) (missized k bs) s.sizes i l)
+  sized i l = not-false _ (none_passes (pairs_of k) (wrong_length k bs) s.sizes i l)
 
   -- Each section lies in the image.
   pub inside : (i : ℕ) → i < pairs_of k → section_at bs i + section_size bs i ≤ length bs

@@ -55,12 +55,12 @@ abbrev pub misplaced_pair : Kind → List ℕ → Option ℕ
 misplaced_pair k bs = lowest (pairs_of k) (misplaced k bs)
 
 -- Section i has a length that it may not have.
-abbrev pub missized : Kind → List ℕ → ℕ → Bool
-missized k bs i = not (size_fits k bs i)
+abbrev pub wrong_length : Kind → List ℕ → ℕ → Bool
+wrong_length k bs i = not (size_fits k bs i)
 
--- The first section that is missized, by its pair.
-abbrev pub missized_section : Kind → List ℕ → Option ℕ
-missized_section k bs = lowest (pairs_of k) (missized k bs)
+-- The first section of a wrong length, by its pair.
+abbrev pub section_of_wrong_length : Kind → List ℕ → Option ℕ
+section_of_wrong_length k bs = lowest (pairs_of k) (wrong_length k bs)
 
 -- Where cell c of section i stands.
 abbrev pub cell_offset : Kind → List ℕ → ℕ → ℕ → ℕ
@@ -87,7 +87,7 @@ refused_at None refusal later = later
 abbrev pub judged_as : Option Kind → List ℕ → Result Kind Refusal
 judged_as None bs = Err (Header 0)
 judged_as (Some k) bs =
-    refused_at (bad_number k bs) Header (refused_at (misplaced_pair k bs) Pair (refused_at (missized_section k bs) Section
+    refused_at (bad_number k bs) Header (refused_at (misplaced_pair k bs) Pair (refused_at (section_of_wrong_length k bs) Section
     (refused_at (bad_value k bs) Value (Ok k))))
 
 -- What is said of any byte string: its kind if it is an image, and else why it is refused.

@@ -1,5 +1,6 @@
-ghost use Rattle.std.specs.Prelude.{◌≡◌, slice_index};
+ghost use Rattle.std.specs.Prelude.{◌≡◌, ◌<◌, slice_index};
 ghost use Rattle.image.specs.Format.{too_many_bits, table_sizes, size_fits};
+ghost use Rattle.image.specs.Judging.{number_bad, bad_number, earliest_start, misplaced, misplaced_pair, section_of_wrong_length, bad_cell, bad_value};
 
 use crate::bytes::{
     ASSUMPTION_SETS, GUARANTEE_SETS, INPUTS, REPLIES, STATES, Section, number, state_bits,
@@ -17,8 +18,25 @@ pub(crate) struct Candidate<'a> {
 }
 
 impl Candidate<'_> {
+    // The offset of the first header number that is out of range.
+    pub(crate) fn bad_number(self) -> Option<usize>
+        ensures { result ≡ bad_number self.entry.kind self.entry.bytes.now }
+    {
+        (0..5).find(|h| self.number_is_bad(*h)).map(|h| 2 + 2 * h)
+    }
+
+    // Whether header number `h` after the kind is out of range.
+    fn number_is_bad(self, h: usize) -> bool
+        requires { h < 5 }
+        ensures { result ≡ number_bad self.entry.kind self.entry.bytes.now h }
+    {
+        let n = number(self.bytes, 2 + 2 * h);
+        let (least, greatest) = self.kind.bounds()[h];
+        !(least..=greatest).contains(&n) || self.has_too_many_bits(h)
+    }
+
     // Whether header number `h` makes too many bits together with those before it.
-    pub(crate) fn has_too_many_bits(self, h: usize) -> bool
+    fn has_too_many_bits(self, h: usize) -> bool
         ensures { result ≡ too_many_bits self.entry.kind self.entry.bytes.now h }
     {
         match self.kind {
@@ -27,8 +45,43 @@ impl Candidate<'_> {
         }
     }
 
+    // The first pair whose section lies where it may not.
+    #[tactic(auto, unfolding(search::specs::First::lowest))]
+    pub(crate) fn misplaced_pair(self) -> Option<u8>
+        ensures { result ≡ misplaced_pair self.entry.kind self.entry.bytes.now }
+    {
+        (0..self.kind.pairs()).find(|pair| self.is_misplaced(*pair))
+    }
+
+    // Whether the section of a pair begins too early, or ends past the image.
+    fn is_misplaced(self, pair: u8) -> bool
+        ensures { result ≡ misplaced self.entry.kind self.entry.bytes.now pair }
+    {
+        let section = Section::read(self.bytes, pair);
+        section.offset < self.earliest(pair) || section.offset + section.size > self.bytes.len()
+    }
+
+    // Where the section of a pair may begin at the earliest.
+    fn earliest(self, pair: u8) -> usize
+        ensures { result ≡ earliest_start self.entry.kind self.entry.bytes.now pair }
+    {
+        if pair == 0 {
+            return self.kind.header_end();
+        }
+        let before = Section::read(self.bytes, pair - 1);
+        before.offset + before.size
+    }
+
+    // The first section that has a length that it may not have.
+    #[tactic(auto, unfolding(search::specs::First::lowest))]
+    pub(crate) fn section_of_wrong_length(self) -> Option<u8>
+        ensures { result ≡ section_of_wrong_length self.entry.kind self.entry.bytes.now }
+    {
+        (0..self.kind.pairs()).find(|pair| !self.size_fits(*pair))
+    }
+
     // Whether the section of a pair has a length that it may have.
-    pub(crate) fn size_fits(self, pair: u8) -> bool
+    fn size_fits(self, pair: u8) -> bool
         ensures { result ≡ size_fits self.entry.kind self.entry.bytes.now pair }
     {
         let size = Section::read(self.bytes, pair).size;
@@ -36,6 +89,25 @@ impl Candidate<'_> {
             Kind::Table => size == table_size(self.bytes, pair),
             Kind::Rules => size % row_width(pair) == 0,
         }
+    }
+
+    // The offset of the first value that is not allowed.
+    pub(crate) fn bad_value(self) -> Option<usize>
+        ensures { result ≡ bad_value self.entry.kind self.entry.bytes.now }
+    {
+        (0..self.kind.pairs()).find_map(|pair| self.bad_cell(pair))
+    }
+
+    // The offset of the first bad cell of a section.
+    fn bad_cell(self, pair: u8) -> Option<usize>
+        ensures { result ≡ bad_cell self.entry.kind self.entry.bytes.now pair }
+    {
+        let kind = self.kind;
+        let width = kind.width(pair);
+        let section = Section::read(self.bytes, pair);
+        let offset = |cell: usize| section.offset + width * cell;
+        let is_bad = |cell: &usize| kind.cell(pair, *cell).is_bad(self.bytes, offset(*cell));
+        (0..section.size / width).find(is_bad).map(offset)
     }
 }
 

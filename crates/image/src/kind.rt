@@ -1,7 +1,9 @@
-ghost use Rattle.std.specs.Prelude.{◌≡◌};
+ghost use Rattle.std.specs.Prelude.{◌≡◌, Some, codes};
 ghost use Rattle.image.specs.Format.{Names, pairs_of, header_end, bounds_of, row_width_of, cell_of, field_of, width_of};
 
 use crate::cell::Cell;
+use std::error::Error;
+use std::fmt;
 
 /// The pair of a table's open flags.
 pub const OPEN_FLAGS: u8 = 0;
@@ -48,6 +50,16 @@ pub enum Kind {
 /// A number that names no kind.
 #[derive(Clone, Copy, PartialEq, Eq, Debug)]
 pub struct UnknownKind;
+
+impl fmt::Display for UnknownKind {
+    ghost output = { λ _. Some (codes "the number names no kind of image") };
+
+    fn fmt<W: fmt::Write>(&self, f: &mut fmt::Formatter<W>) -> fmt::Result {
+        f.write_str("the number names no kind of image")
+    }
+}
+
+impl Error for UnknownKind {}
 
 impl TryFrom<u16> for Kind {
     type Error = UnknownKind;

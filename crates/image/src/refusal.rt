@@ -4,6 +4,7 @@ ghost use Rattle.image.specs.Refusals.{refusal_number, refusal_values, refusal_t
 ghost use Rattle.image.specs.declared.refusal.Refusal.TheVariants as refusal;
 
 use crate::kind::UnknownKind;
+use std::error::Error;
 use std::fmt;
 
 /// Why bytes are not an image.
@@ -67,3 +68,5 @@ impl fmt::Display for Refusal {
         }
     }
 }
+
+impl Error for Refusal {}

@@ -16,6 +16,15 @@ fn an_unknown_kind_is_refused_at_offset_0(rt: HostRuntime) {
 }
 
 #[test]
+fn an_unknown_kind_says_so(rt: HostRuntime) -> Result<(), AllocError> {
+    assert_eq!(rt;
+        UnknownKind.to_string(rt.alloc())?.as_str(),
+        "the number names no kind of image"
+    );
+    Ok(())
+}
+
+#[test]
 fn refusals_print_their_number_and_their_value(rt: HostRuntime) -> Result<(), AllocError> {
     for (refusal, text) in [
         (Refusal::Length, "1"),

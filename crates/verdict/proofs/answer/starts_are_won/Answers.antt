@@ -1,4 +1,4 @@
-use Rattle.std.proofs.Common.{◌≡◌, ℕ, ◌<◌, Bool, true, false, not, ◌||◌, get_or, Decides, sym, refl, ◌∙◌, rules, tests, arith}
+use Rattle.std.proofs.Common.{◌≡◌, ℕ, Bool, true, false, not, ◌||◌, get_or, Decides, sym, refl, ◌∙◌, rules, tests}
 use Rattle.std.proofs.lemmas.Bool.{false≢true}
 use Rattle.arena.specs.declared.player.Player.TheVariants.{Environment}
 use Rattle.arena.specs.Game.{starts}
