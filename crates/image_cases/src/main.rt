@@ -2,14 +2,13 @@
 //! or printed by an independent solver.
 #![tactic(auto)]
 
-use std::alloc::{AllocError, Global};
 use std::fs;
 use verdict::{answer_image, answer_text};
 
 fn main(rt: HostRuntime) -> anyhow::Result<()> {
     let names = fs::read_to_string(&rt, "cases.txt")?;
     let mut agreeing: u32 = 0;
-    for name in names.as_str().lines() {
+    for name in names.lines() {
         if agrees(&rt, name)? {
             agreeing = agreeing.saturating_add(1);
         } else {
@@ -25,9 +24,6 @@ fn agrees(rt: &HostRuntime, name: &str) -> anyhow::Result<bool> {
     let heap = rt.alloc();
     let image = fs::read(rt, format!(in heap; "{name}.image")?)?;
     let expected = fs::read(rt, format!(in heap; "{name}.text")?)?;
-    Ok(answered(heap, image.as_slice())?.as_bytes() == expected.as_slice())
-}
-
-fn answered(heap: Global, image: &[u8]) -> Result<String, AllocError> {
-    answer_text(heap, &answer_image(heap, image)?)
+    let text = answer_text(heap, &answer_image(heap, &image)?)?;
+    Ok(text.as_bytes() == expected.as_slice())
 }

@@ -12,7 +12,7 @@ fn main(rt: HostRuntime) -> anyhow::Result<()> {
     rt.stdin()
         .take(GREATEST_LENGTH as u64 + 1)
         .read_to_end(&mut bytes)?;
-    let answer = answer_image(heap, bytes.as_slice())?;
+    let answer = answer_image(heap, &bytes)?;
     rt.print(answer_text(heap, &answer)?)?;
     Ok(())
 }
