@@ -1,6 +1,6 @@
 ghost use Rattle.std.specs.Prelude.{◌≡◌, ◌<◌, slice_index};
 ghost use Rattle.image.specs.Format.{too_many_bits, table_sizes, size_fits};
-ghost use Rattle.image.specs.Judging.{number_bad, bad_number, earliest_start, misplaced, misplaced_pair, section_of_wrong_length, bad_cell, bad_value};
+ghost use Rattle.image.specs.Judging.{number_offset, number_bad, bad_number, earliest_start, misplaced, misplaced_pair, section_of_wrong_length, bad_cell, bad_value};
 
 use crate::bytes::{
     ASSUMPTION_SETS, GUARANTEE_SETS, INPUTS, REPLIES, STATES, Section, number, state_bits,
@@ -22,7 +22,7 @@ impl Candidate<'_> {
     pub(crate) fn bad_number(self) -> Option<usize>
         ensures { result ≡ bad_number self.entry.kind self.entry.bytes.now }
     {
-        (0..5).find(|h| self.number_is_bad(*h)).map(|h| 2 + 2 * h)
+        (0..5).find(|h| self.number_is_bad(*h)).map(number_offset)
     }
 
     // Whether header number `h` after the kind is out of range.
@@ -30,7 +30,7 @@ impl Candidate<'_> {
         requires { h < 5 }
         ensures { result ≡ number_bad self.entry.kind self.entry.bytes.now h }
     {
-        let n = number(self.bytes, 2 + 2 * h);
+        let n = number(self.bytes, number_offset(h));
         let (least, greatest) = self.kind.bounds()[h];
         !(least..=greatest).contains(&n) || self.has_too_many_bits(h)
     }
@@ -109,6 +109,14 @@ impl Candidate<'_> {
         let is_bad = |cell: &usize| kind.cell(pair, *cell).is_bad(self.bytes, offset(*cell));
         (0..section.size / width).find(is_bad).map(offset)
     }
+}
+
+// The offset of header number `h` after the kind.
+fn number_offset(h: usize) -> usize
+    requires { h < 5 }
+    ensures { result ≡ number_offset h }
+{
+    2 + 2 * h
 }
 
 // How many bytes the section of a pair of a table must have.

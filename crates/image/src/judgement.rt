@@ -32,16 +32,16 @@ pub fn judge(bytes: &[u8]) -> Result<Kind, Refusal>
     if !(least..=GREATEST_LENGTH).contains(&bytes.len()) {
         return Err(Refusal::Length);
     }
-    let image = Candidate { kind: kind?, bytes };
-    refuse_at(image.bad_number(), Refusal::Header)?;
+    let candidate = Candidate { kind: kind?, bytes };
+    refuse_at(candidate.bad_number(), Refusal::Header)?;
     refuse_at(
-        image.misplaced_pair(),
+        candidate.misplaced_pair(),
         |pair| Refusal::Pair(usize::from(pair)),
     )?;
     refuse_at(
-        image.section_of_wrong_length(),
+        candidate.section_of_wrong_length(),
         |pair| Refusal::Section(usize::from(pair)),
     )?;
-    refuse_at(image.bad_value(), Refusal::Value)?;
-    Ok(image.kind)
+    refuse_at(candidate.bad_value(), Refusal::Value)?;
+    Ok(candidate.kind)
 }

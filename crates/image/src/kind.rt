@@ -47,7 +47,7 @@ pub enum Kind {
     Rules,
 }
 
-/// A number that names no kind.
+/// The error of a number that names no kind.
 #[derive(Clone, Copy, PartialEq, Eq, Debug)]
 pub struct UnknownKind;
 
@@ -85,6 +85,7 @@ impl Kind {
         }
     }
 
+    // Where the header ends, and the first section may begin.
     pub(crate) fn header_end(self) -> usize
         ensures { result ≡ header_end self }
     {

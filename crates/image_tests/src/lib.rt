@@ -4,7 +4,7 @@
 #[cfg(test)]
 mod changes;
 #[cfg(test)]
-mod kinds;
+mod kinds_and_refusals;
 #[cfg(test)]
 mod refused_rules;
 #[cfg(test)]

@@ -5,7 +5,8 @@ ghost use Rattle.rules.specs.Signals.{masks_hold};
 
 use image::number;
 
-// A row of an image of rules, by the offset at which it begins.
+// A row of an image of rules, by the offset at which it begins. The bound is far above any offset of an image, and so small that no
+// sum in a row wraps.
 #[derive(Clone, Copy)]
 pub(crate) struct Row<'a> {
     bytes: &'a [u8],

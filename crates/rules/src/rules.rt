@@ -46,7 +46,7 @@ impl<'a> Rules<'a> {
         }
     }
 
-    // Whether every row of a section holds, by the test that the closure is; the first row that fails it decides.
+    // Whether the closure says yes to every row of a section; it is asked no further than the first row to which it says no.
     fn every_row<F: Fn(Row) -> bool>(&self, pair: u8, holds: F) -> bool
         requires { F.IsAlwaysCallable holds }
         ensures { (test : List ℕ → ℕ → Bool)

@@ -27,14 +27,14 @@ impl<'a> Table<'a> {
         }
     }
 
-    // A number as that of a state.
+    // A state beside the count of states.
     fn state(&self, state: u16) -> Index
         ensures { (result.value ≡ state) × (result.count ≡ states_of self.now.bytes.now) }
     {
         Index::new(state, self.states())
     }
 
-    // A number as that of an input.
+    // An input beside the count of inputs.
     fn input(&self, input: u16) -> Index
         ensures { (result.value ≡ input) × (result.count ≡ inputs_of self.now.bytes.now) }
     {
@@ -75,7 +75,8 @@ impl Index {
         Index { value, count }
     }
 
-    // The number of the cell in this column of a row; past the last column there is none.
+    // The cell in this column of a row, where each row has as many columns as there are such numbers and cells are counted through
+    // all rows; past the last column there is none. A number by itself is a cell of row 0.
     fn cell_in(self, row: usize) -> Option<usize>
         requires { row < 2 ^ 32 }
         ensures small { IfSome result (λ cell. cell < 2 ^ 48) }
@@ -106,9 +107,9 @@ impl Moves for Table<'_> {
     }
 
     fn leads(&self, state: u16, input: u16, reply: u16) -> Option<u16> {
-        let row = self.state(state).cell_in(0)?;
-        let row = self.input(input).cell_in(row)?;
-        let cell = Index::new(reply, self.replies()).cell_in(row)?;
+        let state = self.state(state).cell_in(0)?;
+        let choice = self.input(input).cell_in(state)?;
+        let cell = Index::new(reply, self.replies()).cell_in(choice)?;
         let at = Section::read(self.bytes, NEXT_STATES).offset + 2 * cell;
         match number(self.bytes, at) {
             BARRED => None,

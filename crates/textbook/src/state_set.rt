@@ -13,10 +13,12 @@ impl StateSet {
         Ok(StateSet { flags })
     }
 
+    // Whether the state is in the set.
     pub(crate) fn contains(&self, state: u16) -> bool {
         self.flags.get(usize::from(state)).copied().unwrap_or(false)
     }
 
+    // Takes the state out of the set.
     pub(crate) fn remove(&mut self, state: u16) {
         if let Some(flag) = self.flags.get_mut(usize::from(state)) {
             *flag = false;
