@@ -41,7 +41,7 @@ pub trait Moves {
 }
 
 /// A value that means a whole game, with the questions about its sets and starts. Nothing outside the game is in a set or is a
-/// start.
+/// start. Assumptions and guarantees have a question each, as they stand on the two sides of the winning condition.
 pub trait Arena: Moves {
     ghost goals: { Self → GameGoals };
 

@@ -37,7 +37,8 @@ pub fn number(bytes: &[u8], at: usize) -> u16
     u16::from_le_bytes([byte(bytes, at), byte(bytes, at.saturating_add(1))])
 }
 
-/// A pair of the header: where its section begins, and how many bytes it has.
+/// A pair of the header: where its section begins, and how many bytes it has. It is no slice, since a pair is read before its section
+/// is known to lie in the image.
 #[derive(Clone, Copy, PartialEq, Eq, Debug)]
 pub struct Section {
     /// Where it begins.

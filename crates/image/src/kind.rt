@@ -5,6 +5,8 @@ use crate::cell::Cell;
 use std::error::Error;
 use std::fmt;
 
+// The sections of a kind are numbers and no enum: a refusal tells a pair by its number, and `Section::read` takes any number.
+
 /// The pair of a table's open flags.
 pub const OPEN_FLAGS: u8 = 0;
 

@@ -35,7 +35,8 @@ impl<'a> Judged<'a> {
         self.kind
     }
 
-    /// The bytes of the image if it is of this kind, and otherwise those of the built-in image of the kind.
+    /// The bytes of the image if it is of this kind, and otherwise those of the built-in image of the kind: it asks nothing of its
+    /// caller.
     #[tactic(auto, using(crate::proofs::Sounding::built_in_lawful))]
     pub fn bytes_as(self, kind: Kind) -> &'a [u8]
         ensures same { result.now ≡ bytes_as kind self.entry.kind self.entry.bytes.now }

@@ -23,7 +23,7 @@ pub enum Refusal {
 }
 
 impl Refusal {
-    /// The number by which the refusal is known.
+    /// The number by which the refusal is known. It does not tell the whole of it, so there is no `From`.
     pub fn number(self) -> u8
         ensures { result ≡ refusal_number self }
     {

@@ -8,7 +8,7 @@ use image::{Refusal, judge};
 use opened::Image;
 use std::alloc::{AllocError, Global};
 
-/// What is told of an image.
+/// What is told of an image. A refusal is an answer, and no error of the call that gives it.
 #[derive(PartialEq, Eq, Debug, Drop)]
 pub enum Answer {
     /// The bytes are no image, and why.

@@ -38,7 +38,7 @@ impl fmt::Display for Verdicts {
     }
 }
 
-// The letter of a player.
+// The letter of a player. It is the program's, and so not how a `Player` is displayed.
 fn letter(winner: Player) -> &'static str
     ensures { result.now ≡ letter_of winner }
 {
