@@ -15,7 +15,8 @@ const LEAST_LENGTH: usize = 32;
 // A refusal at the place that a test found, where it found one.
 fn refuse_at<T, F: FnOnce(T) -> Refusal>(found: Option<T>, refusal: F) -> Result<(), Refusal>
     requires { F.IsAlwaysCallable refusal }
-    ensures { MatchOption found (result ≡ Ok tt) (λ at. (e : Refusal) × F.post refusal at e × (result ≡ Err e)) }
+    ensures { MatchOption found (result ≡ Ok tt)
+        (λ at. (e : Refusal) × F.post refusal at e × (result ≡ Err e)) }
 {
     match found {
         Some(place) => Err(refusal(place)),

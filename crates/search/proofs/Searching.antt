@@ -32,11 +32,12 @@ some_more n test =
     ap (list_any test) (below_more n) ∙ list_any-append test (range_with_len 0 n) (n ∷ [])
     ∙ ap (λ (b : Bool). list_any test (range_with_len 0 n) || b) (or-false (test n))
 
--- Below 0 every number passes, and none does.
+-- Below 0 every number passes.
 pub every_none : (test : ℕ → Bool) → every 0 test ≡ true
 unfolding every
 every_none test = refl
 
+-- And none does.
 pub some_none : (test : ℕ → Bool) → some 0 test ≡ false
 unfolding some
 some_none test = refl
@@ -131,7 +132,7 @@ none_passes n test e k l = fails (test k) (first_none_all n (λ k. cond (test k)
     fails true h = absurd (none-some k (sym h))
     fails false h = refl
 
--- What is found lies below the bound and passes.
+-- The first number that answers itself lies below the bound and passes.
 first_passes :
     (n : ℕ) (test : ℕ → Bool) (x : ℕ) → first n (λ k. cond (test k) (Some k) None) ≡ Some x → (x < n) × (test x ≡ true)
 unfolding first
@@ -149,6 +150,7 @@ first_passes (suc n) test x e =
     go (Some y) b before t h = let p = before h in (omega arith, p.1)
     go None b before t h = here b t h
 
+-- What is found lies below the bound and passes.
 pub lowest_passes : (n : ℕ) (test : ℕ → Bool) (x : ℕ) → lowest n test ≡ Some x → (x < n) × (test x ≡ true)
 lowest_passes n test x e = first_passes n test x (sym (lowest_first n test) ∙ e)
 
