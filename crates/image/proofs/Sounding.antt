@@ -105,6 +105,12 @@ sound k bs e = by_length (right_length bs) (judged_of_image k bs e)
     by_length true h = by_kind (kind_of bs) h
     by_length false h = absurd (no_kind Length k h)
 
+-- Where no pair is misplaced, each section lies in the image.
+pub section_inside :
+    (k : Kind) (bs : List ℕ) → misplaced_pair k bs ≡ None → (i : ℕ) → i < pairs_of k →
+    section_at bs i + section_size bs i ≤ length bs
+section_inside k bs e i l = ltb-false _ _ (or_parts _ _ (none_passes (pairs_of k) (misplaced k bs) e i l)).1
+
 -- What comes of a place does, only where there is one.
 nothing : (f : ℕ → ℕ) (o : Option ℕ) → option_map f o ≡ None → o ≡ None
 nothing f (Some n) e = absurd (none-some (f n) (sym e))
@@ -139,7 +145,7 @@ module _ (k : Kind) (bs : List ℕ) (s : Sound k bs) where
 
   -- Each section lies in the image.
   pub inside : (i : ℕ) → i < pairs_of k → section_at bs i + section_size bs i ≤ length bs
-  inside i l = ltb-false _ _ (or_parts _ _ (none_passes (pairs_of k) (misplaced k bs) s.ordered i l)).1
+  inside = section_inside k bs s.ordered
 
   -- Each cell holds what it may.
   pub cell_allowed :

@@ -34,7 +34,10 @@ pub(crate) fn byte(bytes: &[u8], at: usize) -> u8
 pub fn number(bytes: &[u8], at: usize) -> u16
     ensures { result ≡ number_at bytes.now at }
 {
-    u16::from_le_bytes([byte(bytes, at), byte(bytes, at.saturating_add(1))])
+    match bytes.get(at..at.saturating_add(2)) {
+        Some([low, high]) => u16::from_le_bytes([*low, *high]),
+        _ => u16::from(byte(bytes, at)),
+    }
 }
 
 /// A pair of the header: where its section begins, and how many bytes it has. It is no slice, since a pair is read before its section

@@ -1,11 +1,16 @@
-ghost use Rattle.std.specs.Prelude.{◌≡◌, ◌<◌, slice_index};
-ghost use Rattle.image.specs.Format.{too_many_bits, table_sizes, size_fits};
+ghost use Rattle.std.specs.Prelude.{◌≡◌, ◌<◌, ℕ, slice_index};
+ghost use Rattle.image.specs.declared.cell.Cell.{Cell};
+ghost use Rattle.image.specs.Format.{too_many_bits, table_sizes, size_fits, cell_of};
 ghost use Rattle.image.specs.Judging.{number_offset, number_bad, bad_number, earliest_start, misplaced, misplaced_pair, section_of_wrong_length, bad_cell, bad_value};
 
 use crate::bytes::{
     ASSUMPTION_SETS, GUARANTEE_SETS, INPUTS, REPLIES, STATES, Section, number, state_bits,
 };
-use crate::kind::{ASSUMPTIONS, GUARANTEES, Kind, NEXT_STATES, OPEN_FLAGS, STARTS, row_width};
+use crate::cell::{Bounds, Cell};
+use crate::kind::{
+    ASSUMPTION_ROWS, ASSUMPTIONS, ENVIRONMENT_ROWS, GUARANTEE_ROWS, GUARANTEES, Kind, NEXT_STATES,
+    OPEN_FLAGS, START_ROWS, STARTS, row_width,
+};
 
 // The most bits that a state of rules has.
 const MOST_BITS: u32 = 10;
@@ -98,16 +103,45 @@ impl Candidate<'_> {
         (0..self.kind.pairs()).find_map(|pair| self.bad_cell(pair))
     }
 
-    // The offset of the first bad cell of a section.
+    // The offset of the first bad cell of a section. Each arm is a walk of its own, in which kind and section are written out, so that
+    // nothing is asked of them at a cell.
     fn bad_cell(self, pair: u8) -> Option<usize>
         ensures { result ≡ bad_cell self.entry.kind self.entry.bytes.now pair }
     {
-        let kind = self.kind;
-        let width = kind.width(pair);
+        match (self.kind, pair) {
+            (Kind::Table, NEXT_STATES) => {
+                self.first_bad(pair, |cell| Kind::Table.cell(NEXT_STATES, cell))
+            }
+            (Kind::Table, _) => self.first_bad(pair, |cell| Kind::Table.cell(OPEN_FLAGS, cell)),
+            (Kind::Rules, ENVIRONMENT_ROWS) => {
+                self.first_bad(pair, |cell| Kind::Rules.cell(ENVIRONMENT_ROWS, cell))
+            }
+            (Kind::Rules, ASSUMPTION_ROWS) => {
+                self.first_bad(pair, |cell| Kind::Rules.cell(ASSUMPTION_ROWS, cell))
+            }
+            (Kind::Rules, GUARANTEE_ROWS) => {
+                self.first_bad(pair, |cell| Kind::Rules.cell(GUARANTEE_ROWS, cell))
+            }
+            (Kind::Rules, _) => self.first_bad(pair, |cell| Kind::Rules.cell(START_ROWS, cell)),
+        }
+    }
+
+    // The offset of the first bad cell of a section, where the closure tells what each cell holds.
+    fn first_bad<F: Fn(usize) -> Cell>(self, pair: u8, held: F) -> Option<usize>
+        requires callable { F.IsAlwaysCallable held }
+        requires told { (n : ℕ) (cell : Cell) → F.post held n cell → cell ≡ cell_of self.kind pair n }
+        ensures { result ≡ bad_cell self.entry.kind self.entry.bytes.now pair }
+    {
+        let width = self.kind.width(pair);
         let section = Section::read(self.bytes, pair);
-        let offset = |cell: usize| section.offset + width * cell;
-        let is_bad = |cell: &usize| kind.cell(pair, *cell).is_bad(self.bytes, offset(*cell));
-        (0..section.size / width).find(is_bad).map(offset)
+        let bounds = Bounds::read(self.bytes);
+        for cell in 0..section.size / width {
+            let at = section.offset + width * cell;
+            if held(cell).is_bad(&bounds, at) {
+                return Some(at);
+            }
+        }
+        None
     }
 }
 

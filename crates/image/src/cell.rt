@@ -1,5 +1,5 @@
 ghost use Rattle.std.specs.Prelude.{◌≡◌, ◌^◌, not, nat_lt};
-ghost use Rattle.image.specs.Format.{value_at, allowed};
+ghost use Rattle.image.specs.Format.{states_of, state_bits_of, input_bits_of, assumptions_of, guarantees_of, value_at, allowed};
 
 use crate::bytes::{ASSUMPTION_SETS, GUARANTEE_SETS, INPUT_BITS, STATES, byte, number, state_bits};
 use crate::kind::BARRED;
@@ -21,15 +21,50 @@ pub(crate) enum Cell {
     GuaranteeSet,
 }
 
+// The numbers of the header that bound what cells may hold, each read once for all cells of a section.
+#[derive(Clone, Copy)]
+pub(crate) struct Bounds<'a> {
+    bytes: &'a [u8],
+    states: u16,
+    state_bits: u32,
+    input_bits: u32,
+    assumption_sets: u16,
+    guarantee_sets: u16,
+    ghost states_read: { states ≡ states_of bytes.now },
+    ghost state_bits_read: { state_bits ≡ state_bits_of bytes.now },
+    ghost input_bits_read: { input_bits ≡ input_bits_of bytes.now },
+    ghost assumption_sets_read: { assumption_sets ≡ assumptions_of bytes.now },
+    ghost guarantee_sets_read: { guarantee_sets ≡ guarantees_of bytes.now },
+}
+
+impl<'a> Bounds<'a> {
+    // The bounds that stand in the header.
+    pub(crate) fn read(bytes: &'a [u8]) -> Bounds<'a>
+        ensures { result.bytes.now ≡ bytes.now }
+    {
+        Bounds {
+            bytes,
+            states: number(bytes, STATES),
+            state_bits: state_bits(bytes),
+            input_bits: u32::from(number(bytes, INPUT_BITS)),
+            assumption_sets: number(bytes, ASSUMPTION_SETS),
+            guarantee_sets: number(bytes, GUARANTEE_SETS),
+        }
+    }
+}
+
+// The three are inlined into each walk over cells, which has told what they hold, so that it is not asked again at each.
 impl Cell {
     // Whether the cell at an offset holds what it may not.
-    pub(crate) fn is_bad(self, bytes: &[u8], at: usize) -> bool
-        ensures { result ≡ not (allowed self bytes.now (value_at self bytes.now at)) }
+    #[inline(always)]
+    pub(crate) fn is_bad(self, bounds: &Bounds, at: usize) -> bool
+        ensures { result ≡ not (allowed self bounds.now.bytes.now (value_at self bounds.now.bytes.now at)) }
     {
-        !self.allows(bytes, self.value(bytes, at))
+        !self.allows(bounds, self.value(bounds.bytes, at))
     }
 
     // What stands in the cell at an offset.
+    #[inline(always)]
     fn value(self, bytes: &[u8], at: usize) -> u16
         ensures { result ≡ value_at self bytes.now at }
     {
@@ -40,16 +75,17 @@ impl Cell {
     }
 
     // Whether the cell may hold the value.
-    fn allows(self, bytes: &[u8], value: u16) -> bool
-        ensures { result ≡ allowed self bytes.now value }
+    #[inline(always)]
+    fn allows(self, bounds: &Bounds, value: u16) -> bool
+        ensures { result ≡ allowed self bounds.now.bytes.now value }
     {
         match self {
             Cell::Flag => value <= 1,
-            Cell::Target => value < number(bytes, STATES) || value == BARRED,
-            Cell::Mask => has_only_bits(value, state_bits(bytes)),
-            Cell::InputMask => has_only_bits(value, u32::from(number(bytes, INPUT_BITS))),
-            Cell::AssumptionSet => value < number(bytes, ASSUMPTION_SETS),
-            Cell::GuaranteeSet => value < number(bytes, GUARANTEE_SETS),
+            Cell::Target => value < bounds.states || value == BARRED,
+            Cell::Mask => has_only_bits(value, bounds.state_bits),
+            Cell::InputMask => has_only_bits(value, bounds.input_bits),
+            Cell::AssumptionSet => value < bounds.assumption_sets,
+            Cell::GuaranteeSet => value < bounds.guarantee_sets,
         }
     }
 }

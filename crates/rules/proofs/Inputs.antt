@@ -6,7 +6,7 @@ use Rattle.image.specs.Bytes.{number_at}
 use Rattle.image.specs.Format.{input_bits_of}
 use Rattle.image.proofs.Fields.{next_mask}
 use Rattle.std.proofs.Math.Pow.{pow_mono}
-use Rattle.image.proofs.Sounding.{sound}
+use Rattle.image.proofs.Sounding.{Sound, sound}
 use Rattle.rules.specs.Games.{is_rules, input_count, InputsAlone}
 use Rattle.rules.specs.Rows.{row_count, row_at, masks_at_hold}
 use Rattle.rules.specs.Signals.{masks_hold}
@@ -35,11 +35,15 @@ low_masks_hold a t f x y few l m n =
     small_f : f < 65536
     small_f = omega (arith, m, pow_mono few)
 
-pub inputs_alone : (bs : List ℕ) → is_rules bs ≡ true → InputsAlone bs
-inputs_alone bs e q x y l =
-    let s = sound Rules bs e in
+-- Where no test found anything in the bytes, whether rows hold does not depend on the reply.
+pub inputs_alone : (bs : List ℕ) → Sound Rules bs → InputsAlone bs
+inputs_alone bs s q x y l =
     every_same (row_count bs 0) _ _
     (λ r m.
     ap (λ (b : Bool). masks_at_hold bs (row_at bs 0 r) q || b)
     (low_masks_hold (input_bits_of bs) _ _ x y (few_inputs bs s) (next_mask bs s r 0 m (omega arith))
     (subst (λ (at : ℕ). number_at bs at < input_count bs) (omega arith) (next_mask bs s r 1 m (omega arith))) l))
+
+-- And so it is where the bytes are judged to be rules.
+pub rules_inputs_alone : (bs : List ℕ) → is_rules bs ≡ true → InputsAlone bs
+rules_inputs_alone bs e = inputs_alone bs (sound Rules bs e)

@@ -20,7 +20,7 @@ pub struct Rules<'a> {
 
 impl<'a> Rules<'a> {
     /// The rules of an image, or the built-in rules where the image is of another kind.
-    #[tactic(auto, using(crate::proofs::Inputs::inputs_alone))]
+    #[tactic(auto, using(crate::proofs::Inputs::rules_inputs_alone))]
     pub fn of(image: Judged<'a>) -> Rules<'a>
         ensures bytes { result.bytes.now ≡ bytes_as Kind.Rules image.entry.kind image.entry.bytes.now }
         ensures alone { InputsAlone result.bytes.now }

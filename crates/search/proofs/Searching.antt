@@ -1,7 +1,7 @@
 -- What a bounded search finds.
 use Rattle.std.proofs.Common.{◌≡◌, ℕ, zero, suc, ◌+◌, ◌<◌, Bool, true, false, cond, ◌&&◌, ◌||◌, List, [], ◌∷◌, ◌++◌, find, is_some, Some, None, Decides, Option, sym, refl, ap, ap₂, ◌∙◌, subst, ⊎_elim, arith}
 use Rattle.std.specs.List.{range_with_len, list_all, list_any}
-use Rattle.std.specs.Option.{option_or}
+use Rattle.std.specs.Option.{option_or, option_map}
 use Rattle.std.proofs.Math.Bool.{and-true, or-false}
 use Rattle.std.proofs.lemmas.Bool.{and_parts, and_from, cases_eq, false≢true}
 use Rattle.std.proofs.lemmas.Option.{none-some}
@@ -115,22 +115,85 @@ module _ {A : Type 0} where
       none_right (Some x) p h = absurd (none-some x (sym h))
       none_right None p h = h
 
+  -- A search by a test, in which each number that passes gives an answer.
+  module _ (test : ℕ → Bool) (answer : ℕ → A) where
+    abbrev told : ℕ → Option A
+    told k = cond (test k) (Some (answer k)) None
+
+    told_none : (k : ℕ) → test k ≡ false → told k ≡ None
+    told_none k e = cc
+
+    told_some : (k : ℕ) → test k ≡ true → told k ≡ Some (answer k)
+    told_some k e = cc
+
+    none_told : (k : ℕ) → told k ≡ None → test k ≡ false
+    none_told k e = go (test k) e
+      where
+        go : (b : Bool) → cond b (Some (answer k)) None ≡ None → b ≡ false
+        go true h = absurd (none-some (answer k) (sym h))
+        go false h = refl
+
+    -- The first number that passes gives its answer.
+    pub found :
+        (n i : ℕ) → i < n → ((k : ℕ) → k < i → test k ≡ false) → test i ≡ true →
+        Some (answer i) ≡ first n (λ k. cond (test k) (Some (answer k)) None)
+    found n i l before here =
+        let some = told_some i here in
+        sym (first_here n told i l (λ k b. told_none k (before k b)) (ap is_some some) ∙ some)
+
+    -- Where no number passes, nothing is found.
+    pub not_found :
+        (n : ℕ) → ((k : ℕ) → k < n → test k ≡ false) → None ≡ first n (λ k. cond (test k) (Some (answer k)) None)
+    not_found n none = sym (first_none n told (λ k b. told_none k (none k b)))
+
+    -- Where nothing is found, no number passes.
+    pub passed :
+        (n : ℕ) → first n (λ k. cond (test k) (Some (answer k)) None) ≡ None → (k : ℕ) → k < n → test k ≡ false
+    passed n e k l = none_told k (first_none_all n told e k l)
+
 -- ── The lowest number that passes ─────────────────────────────────────────────────────────────
 -- It is the first answer of a search in which each number that passes answers itself.
-lowest_first : (n : ℕ) (test : ℕ → Bool) → lowest n test ≡ first n (λ k. cond (test k) (Some k) None)
+pub lowest_first : (n : ℕ) (test : ℕ → Bool) → lowest n test ≡ first n (λ k. cond (test k) (Some k) None)
 unfolding lowest first
 lowest_first zero test = refl
 lowest_first (suc n) test =
     ap (find test) (below_more n) ∙ find-append test (range_with_len 0 n) (n ∷ [])
     ∙ ap (λ (o : Option ℕ). option_or o (cond (test n) (Some n) None)) (lowest_first n test)
 
+-- And where each gives an answer, the first one found is that of the lowest number.
+pub answer_of_lowest :
+    {A : Type 0} (n : ℕ) (test : ℕ → Bool) (answer : ℕ → A) →
+    first n (λ k. cond (test k) (Some (answer k)) None) ≡ option_map answer (lowest n test)
+unfolding first
+answer_of_lowest {A = A} n test answer = go n ∙ ap (option_map answer) (sym (lowest_first n test))
+  where
+    join :
+        (n : ℕ) (o : Option ℕ) (b : Bool) →
+        option_or (option_map answer o) (cond b (Some (answer n)) None) ≡ option_map answer (option_or o (cond b (Some n) None))
+    join n (Some x) b = refl
+    join n None true = refl
+    join n None false = refl
+
+    go :
+        (n : ℕ) →
+        first n (λ k. cond (test k) (Some (answer k)) None) ≡ option_map answer (first n (λ k. cond (test k) (Some k) None))
+    go zero = refl
+    go (suc n) =
+        ap (λ (o : Option A). option_or o (cond (test n) (Some (answer n)) None)) (go n)
+        ∙ join n (first n (λ k. cond (test k) (Some k) None)) (test n)
+
+-- A number that passes, and none before it, is the one found.
+pub lowest_here :
+    (n : ℕ) (test : ℕ → Bool) (i : ℕ) → i < n → ((k : ℕ) → k < i → test k ≡ false) → test i ≡ true → Some i ≡ lowest n test
+lowest_here n test i l before here = found test (λ k. k) n i l before here ∙ sym (lowest_first n test)
+
+-- Where no number passes, none is found.
+pub lowest_none : (n : ℕ) (test : ℕ → Bool) → ((k : ℕ) → k < n → test k ≡ false) → None ≡ lowest n test
+lowest_none n test none = not_found test (λ k. k) n none ∙ sym (lowest_first n test)
+
 -- Where none is found, no number below the bound passes.
 pub none_passes : (n : ℕ) (test : ℕ → Bool) → lowest n test ≡ None → (k : ℕ) → k < n → test k ≡ false
-none_passes n test e k l = fails (test k) (first_none_all n (λ k. cond (test k) (Some k) None) (sym (lowest_first n test) ∙ e) k l)
-  where
-    fails : (b : Bool) → cond b (Some k) None ≡ None → b ≡ false
-    fails true h = absurd (none-some k (sym h))
-    fails false h = refl
+none_passes n test e k l = passed test (λ k. k) n (sym (lowest_first n test) ∙ e) k l
 
 -- The first number that answers itself lies below the bound and passes.
 first_passes :
