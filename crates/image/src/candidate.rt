@@ -103,8 +103,8 @@ impl Candidate<'_> {
         (0..self.kind.pairs()).find_map(|pair| self.bad_cell(pair))
     }
 
-    // The offset of the first bad cell of a section. Each arm is a walk of its own, in which kind and section are written out, so that
-    // nothing is asked of them at a cell.
+    // The offset of the first bad cell of a section. Each arm is a walk of its own, in which the kind is written out, and a section
+    // whose cells are those of the pair's: so neither is asked for at a cell.
     fn bad_cell(self, pair: u8) -> Option<usize>
         ensures { result ≡ bad_cell self.entry.kind self.entry.bytes.now pair }
     {

@@ -21,7 +21,7 @@ pub(crate) enum Cell {
     GuaranteeSet,
 }
 
-// The numbers of the header that bound what cells may hold, each read once for all cells of a section.
+// The bytes of an image, with the numbers of the header that bound what cells may hold, each read once for all cells of a section.
 #[derive(Clone, Copy)]
 pub(crate) struct Bounds<'a> {
     bytes: &'a [u8],
@@ -53,7 +53,7 @@ impl<'a> Bounds<'a> {
     }
 }
 
-// The three are inlined into each walk over cells, which has told what they hold, so that it is not asked again at each.
+// The three functions are inlined into each walk over cells: a walk knows what its cells hold, and so does not ask at each.
 impl Cell {
     // Whether the cell at an offset holds what it may not.
     #[inline(always)]
